@@ -1,0 +1,5 @@
+use Rattle.matrices.proofs.Bits.{bit-test}
+use Rattle.matrices.proofs.test.Needs as need
+
+pub returns : need.returns
+returns c = bit-test _ _

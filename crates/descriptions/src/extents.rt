@@ -7,6 +7,9 @@ use crate::heads::SentenceHead;
 use crate::heads::expression_head;
 use crate::heads::sentence_head;
 
+// 'For every' may stand so deep.
+pub const DEEPEST: u8 = 4;
+
 // What numbers may name: so many relations, and so many things spoken of.
 #[derive(Clone, Copy)]
 pub struct Scope {
@@ -76,7 +79,7 @@ pub fn sentence_extent(bytes: &[u8], at: usize, scope: Scope) -> Option<Extent>
         SentenceHead::Not => operand_extent(bytes, at + 1, scope, Kind::OfSentence),
         SentenceHead::Both => pair_extent(bytes, at + 1, scope, Kind::OfSentence),
         SentenceHead::ForEvery => {
-            if scope.spoken < 4 {
+            if scope.spoken < DEEPEST {
                 let inner = Scope {
                     relations: scope.relations,
                     spoken: scope.spoken + 1,

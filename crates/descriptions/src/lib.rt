@@ -9,6 +9,7 @@ mod extents;
 // Bytes as a whole description.
 mod whole;
 
+pub use extents::DEEPEST;
 pub use extents::Extent;
 pub use extents::Scope;
 pub use extents::expression_extent;

@@ -1,6 +1,6 @@
 -- Bits of words: of what the operators on words make, and of a word with one bit set.
 use mathlib.Core.Path.{_≡_, refl, sym, _∙_, ap}
-use mathlib.Core.Bool.{Bool, true, false, _&&_, _||_, not}
+use mathlib.Core.Bool.{Bool, true, false, _&&_, _||_, not, cond}
 use mathlib.Core.Logic.{_⊎_, inl, inr}
 use Prim.Native.Nat.{ℕ, zero, suc, _+_, _-_, _*_, _/_, _%_, _^_, _<_, _≤_}
 use native.Mathlib.Nat.{div-eq-of-lt, zero-div, div-self, pow-succ'}
@@ -114,3 +114,13 @@ bit-put-true w p k b h e =
 
 pub bit-put-false : (w p k : ℕ) (b : Bool) → b ≡ false → bit w k ≡ ((eqb k p && b) || bit w k)
 bit-put-false w p k b e = ap (λ (x : Bool). x || bit w k) (sym (ap (λ (x : Bool). eqb k p && x) e ∙ and-false (eqb k p)))
+
+differ-cond : (a b : Bool) → differ a b ≡ cond b (not a) a
+differ-cond true true = refl
+differ-cond true false = refl
+differ-cond false true = refl
+differ-cond false false = refl
+
+-- a bit changed
+pub bit-flip : (w p k : ℕ) → p < 64 → bit (bitXor w ((1 * 2 ^ p) % 2 ^ 64)) k ≡ cond (eqb k p) (not (bit w k)) (bit w k)
+bit-flip w p k h = ap (λ (x : ℕ). bit (bitXor w x) k) (one-shl p 64 h) ∙ bit-xor w (2 ^ p) k ∙ ap (λ (x : Bool). differ (bit w k) x) (bit-pow p k) ∙ differ-cond (bit w k) (eqb k p)

@@ -1,7 +1,7 @@
 // Boolean matrices: a relation between at most eight things in a 64-bit word, with what the
 // operators of descriptions make of one or two of them.
 ghost use mathlib.Core.Path.{_≡_};
-ghost use mathlib.Core.Bool.{_&&_, _||_, not};
+ghost use mathlib.Core.Bool.{_&&_, _||_, not, cond};
 ghost use Prim.Native.Nat.{ℕ, _*_, _<_, _≤_};
 ghost use lib.Dec.{eqb};
 ghost use Rattle.descriptions.specs.Pictures.{any, every, compose, reach};
@@ -50,6 +50,14 @@ pub fn put(word: u64, place: usize, wanted: bool) -> u64
     ensures { λ r. ⌜ ((k : ℕ) → bit r k ≡ ((eqb k place && wanted) || bit word k)) ⌝ }
 {
     if wanted { word | (1 << place) } else { word }
+}
+
+// The word with the bit at a place changed.
+pub fn flip(word: u64, place: usize) -> u64
+    requires { ⌜ place < 64 ⌝ }
+    ensures { λ r. ⌜ ((k : ℕ) → bit r k ≡ cond (eqb k place) (not (bit word k)) (bit word k)) ⌝ }
+{
+    word ^ (1 << place)
 }
 
 // Whether one thing stands to another.

@@ -38,7 +38,7 @@ pub sentence-extent-returns-in-Break-head : need.sentence-extent-returns-in-Brea
 sentence-extent-returns-in-Break-head t c = rw (c .from-residual .ensures) (no-sentence _ _ (c .args .bytes .now) (c .args .at) _ (c .in-Break-head .ensures tt))
 
 pub sentence-extent-returns-in-Break-body : need.sentence-extent-returns-in-Break-body
-sentence-extent-returns-in-Break-body t c = rw (c .from-residual-in-Break-body .ensures) (no-body (c .args .scope) (c .args .bytes .now) (c .args .at) _ (c .in-Continue-head .ensures tt) (c .in-ForEvery .is) (c .if-scope-lt4 .taken) (c .in-Break-body .ensures tt))
+sentence-extent-returns-in-Break-body t c = rw (c .from-residual-in-Break-body .ensures) (no-body (c .args .scope) (c .args .bytes .now) (c .args .at) _ (c .in-Continue-head .ensures tt) (c .in-ForEvery .is) (c .if-scope-lt-DEEPEST .taken) (c .in-Break-body .ensures tt))
 
 pub sentence-extent-add-result : need.sentence-extent-add-result
 sentence-extent-add-result t c = omega (arith, depth-small _ (c .args .bytes .now) _ (c .in-Continue-body .body) (c .in-Continue-body .ensures tt))
@@ -56,7 +56,7 @@ pub sentence-extent-returns-in-Both : need.sentence-extent-returns-in-Both
 sentence-extent-returns-in-Both t c = both-extent (c .args .scope) (c .args .bytes .now) (c .args .at) _ (c .in-Continue-head .ensures tt) _ (c .in-Both .is) (c .pair-extent-in-Both .ensures)
 
 pub sentence-extent-returns-in-Continue-body : need.sentence-extent-returns-in-Continue-body
-sentence-extent-returns-in-Continue-body t c = body-extent (c .args .scope) (c .args .bytes .now) (c .args .at) _ (c .in-Continue-head .ensures tt) (c .in-Continue-body .body) (c .in-ForEvery .is) (c .if-scope-lt4 .taken) (c .in-Continue-body .ensures tt)
+sentence-extent-returns-in-Continue-body t c = body-extent (c .args .scope) (c .args .bytes .now) (c .args .at) _ (c .in-Continue-head .ensures tt) (c .in-Continue-body .body) (c .in-ForEvery .is) (c .if-scope-lt-DEEPEST .taken) (c .in-Continue-body .ensures tt)
 
-pub sentence-extent-returns-else-scope-lt4 : need.sentence-extent-returns-else-scope-lt4
-sentence-extent-returns-else-scope-lt4 t c = too-deep _ _ (c .args .bytes .now) (c .args .at) _ _ (c .in-ForEvery .is) (c .in-Continue-head .ensures tt) (c .if-scope-lt4 .left)
+pub sentence-extent-returns-else-scope-lt-DEEPEST : need.sentence-extent-returns-else-scope-lt-DEEPEST
+sentence-extent-returns-else-scope-lt-DEEPEST t c = too-deep _ _ (c .args .bytes .now) (c .args .at) _ _ (c .in-ForEvery .is) (c .in-Continue-head .ensures tt) (c .if-scope-lt-DEEPEST .left)

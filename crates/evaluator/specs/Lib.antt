@@ -1,0 +1,3 @@
+pub mod Packing
+pub mod Speaking
+pub mod Evaluating

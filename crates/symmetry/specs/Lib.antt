@@ -1,0 +1,1 @@
+-- The theorem is stated in the crate descriptions, in specs/Theorems.antt.

@@ -3,6 +3,7 @@ pub mod Pictures
 pub mod Meaning
 pub mod Bytes
 pub mod Theorems
+pub mod First
 pub mod Reading
 pub mod Heads
 pub mod Examples

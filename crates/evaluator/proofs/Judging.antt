@@ -19,6 +19,7 @@ module _ (p : Packed) (s : List ℕ) (n : ℕ) (v : Environment) (first : s ≡ 
   -- the scope, as the bytes give it
   abbrev Scoped : (ℕ → ℕ → Type 0) → Type 0
   Scoped P = P (p .relations) (v .count) → P n 0
+
   scoped : (P : ℕ → ℕ → Type 0) → Scoped P
   scoped P x = subst (λ (k : ℕ). P n k) (silent .count) (subst (λ (k : ℕ). P k (v .count)) (sym same) x)
 
@@ -28,8 +29,10 @@ module _ (p : Packed) (s : List ℕ) (n : ℕ) (v : Environment) (first : s ≡ 
   module _ (end : ℕ) (b : Bool) (f : Stands writeS (fineS (p .relations) (v .count)) s 1 end (λ c. b ≡ holds (p .things) (unpacked p) (seen v) c)) where
     there : Stands writeS (fineS n 0) s 1 end (λ c. b ≡ holds (p .things) (unpacked p) (seen v) c)
     there = scoped (λ a k. Stands writeS (fineS a k) s 1 end (λ c. b ≡ holds (p .things) (unpacked p) (seen v) c)) f
+
     pub more-bytes : (end ≡ length s → ⊥) → JudgedIf p s None
     more-bytes ne d r e = not-whole s n first end _ there ne d r
+
     pub judged : 1 ≤ n → n ≤ 8 → length s ≤ 512 → end ≡ length s → Judged p s b
     judged some few short q =
         record { description = record { relations = n; sentence = there .part }; reads = whole s n first end _ some few short there q; relations = same; is-of = there .says ∙ ap (λ (l : List ℕ). holds (p .things) (unpacked p) l (there .part)) (silent .none) }

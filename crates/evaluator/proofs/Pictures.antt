@@ -26,6 +26,7 @@ use Rattle.evaluator.specs.Packing.{bitAt, size, unpacked, bits, SpotAt, Unpac
 -- a relation's bits lie before those of the next
 pub row-fits : (r n q : ℕ) → r < n → r * q + q ≤ n * q
 row-fits r n q h = let a : suc r * q ≤ n * q = mul-le-mul-right q h in let e = suc-mul r q in omega arith
+
 pub size-small : (n m : ℕ) → n ≤ 8 → m ≤ 8 → n * (m * m) ≤ 512
 size-small n m hn hm = mul-le n (m * m) 8 64 hn (square m hm)
 
@@ -52,10 +53,12 @@ relation-is p r i j hr hi hj =
 positive : (n q k : ℕ) → k < n * q → 0 < q
 positive n zero k h = absurd (let e : n * 0 ≡ 0 = omega arith in omega arith)
 positive n (suc q) k h = omega arith
+
 pub spot-is : (n k m : ℕ) → m ≤ 8 → k < n * (m * m) → SpotAt n k m (record { relation = k / (m * m); place = k % (m * m) })
 spot-is n k m h l =
     let p = positive n (m * m) k l in
     record { relation = refl; place = refl; known = div-below k (m * m) n p l; low = let a = mod-below k (m * m) p in let s = square m h in omega arith }
+
 pub pairs-some : (n k m : ℕ) → k < n * (m * m) → m * m ≡ 0 → ⊥
 pairs-some n k m l e = let p = positive n (m * m) k l in omega arith
 
@@ -63,17 +66,22 @@ pairs-some n k m l e = let p = positive n (m * m) k l in omega arith
 pub length-bits : (p : Picture) → length (bits p) ≡ length p
 length-bits [] = refl
 length-bits (b ∷ p) = ap suc (length-bits p)
+
 pub getD-bits : (p : Picture) (k : ℕ) → getD (bits p) k 0 ≡ cond (getD p k false) 1 0
 getD-bits [] k = refl
 getD-bits (b ∷ p) zero = refl
 getD-bits (b ∷ p) (suc k) = getD-bits p k
+
 bit-small : (b : Bool) → cond b 1 0 ≤ 1
 bit-small true = omega arith
 bit-small false = omega arith
+
 pub bits-small : (p : Picture) (k : ℕ) → getD (bits p) k 0 ≤ 1
 bits-small p k = rw (getD-bits p k) (bit-small (getD p k false))
+
 pub length-unpacked : (p : Packed) → length (unpacked p) ≡ size p
 length-unpacked p = length-map-counting (bitAt (p .words) (p .things)) 0 (size p)
+
 pub getD-unpacked : (p : Packed) (k : ℕ) → k < size p → getD (unpacked p) k false ≡ bitAt (p .words) (p .things) k
 getD-unpacked p k h = getD-map-counting (bitAt (p .words) (p .things)) 0 (size p) k k false h (omega arith)
 
@@ -81,6 +89,7 @@ getD-unpacked p k h = getD-map-counting (bitAt (p .words) (p .things)) 0 (size p
 module _ (ws : List ℕ) (m place w : ℕ) (change : Bool → Bool → Bool) (still : (b : Bool) → change false b ≡ b) where
   abbrev q : ℕ
   q = m * m
+
   bitAt-by : (k : ℕ) → place / q < length ws → ((j : ℕ) → bit w j ≡ change (eqb j (place % q)) (bit (getD ws (place / q) 0) j)) → (k / q ≡ place / q) ⊎ (k / q ≡ place / q → ⊥) → bitAt (set ws (place / q) w) m k ≡ change (eqb k place) (bitAt ws m k)
   bitAt-by k l f (inl e) =
       let a = div-add-mod' k q in let b = div-add-mod' place q in
@@ -95,6 +104,7 @@ module _ (ws : List ℕ) (m place w : ℕ) (change : Bool → Bool → Bool) (st
       let apart : eqb k place ≡ false = ne-eqb k place (λ e. ne (ap (λ (x : ℕ). x / q) e)) in
       ap (λ (x : ℕ). bit x (k % q)) (getD-set-other ws (place / q) (k / q) w 0 ne)
       ∙ sym (still (bitAt ws m k)) ∙ ap (λ (x : Bool). change x (bitAt ws m k)) (sym apart)
+
   pub bitAt-changed : (k : ℕ) → place / q < length ws → ((j : ℕ) → bit w j ≡ change (eqb j (place % q)) (bit (getD ws (place / q) 0) j)) → bitAt (set ws (place / q) w) m k ≡ change (eqb k place) (bitAt ws m k)
   bitAt-changed k l f = bitAt-by k l f (cases-eq (k / q) (place / q))
 
@@ -102,25 +112,30 @@ module _ (ws : List ℕ) (m place w : ℕ) (change : Bool → Bool → Bool) (st
 pub record Writing (p : Packed) (o o′ : List ℕ) (at : ℕ) : Type 0 where
   pub done : (k : ℕ) → k < at → getD o′ k 0 ≡ cond (bitAt (p .words) (p .things) k) 1 0
   pub rest : (k : ℕ) → at ≤ k → getD o′ k 0 ≡ getD o k 0
+
 pub writing-none : (p : Packed) (o : List ℕ) → Writing p o o 0
 writing-none p o = record { done = λ k h. absurd (omega arith); rest = λ k h. refl }
+
 pub writing-more : (p : Packed) (o o′ : List ℕ) (at x : ℕ) → at < length o′ → x ≡ cond (bitAt (p .words) (p .things) at) 1 0 → Writing p o o′ at → Writing p o (set o′ at x) (at + 1)
 writing-more p o o′ at x l e w =
     record {
       done = below-more _ _ (λ k h. let ne : k ≢ at = omega arith in getD-set-other o′ at k x 0 ne ∙ w .done k h) (getD-set-same o′ at x 0 l ∙ e);
-      rest = λ k h. let ne : k ≢ at = omega arith in getD-set-other o′ at k x 0 ne ∙ w .rest k (omega arith) }
+      rest = λ k h. let ne : k ≢ at = omega arith in getD-set-other o′ at k x 0 ne ∙ w .rest k (omega arith);
+    }
+
 pub writing-all : (p : Packed) (o o′ : List ℕ) (at : ℕ) → length o′ ≡ length o → at ≡ size p → size p ≤ length o → Writing p o o′ at → Unpacks p o o′
 writing-all p o o′ at l e fit w =
     let n : ℕ = size p in
     record {
       first =
-        ext-getD 0 (take n o′) (bits (unpacked p)) (length-take-le n o′ (omega arith) ∙ sym (length-bits (unpacked p) ∙ length-unpacked p))
-        (λ k h.
+          ext-getD 0 (take n o′) (bits (unpacked p)) (length-take-le n o′ (omega arith) ∙ sym (length-bits (unpacked p) ∙ length-unpacked p))
+          (λ k h.
           let h′ : k < n = omega (arith, length-take-le n o′ (omega arith)) in
           getD-take n o′ k 0 h′ ∙ w .done k (omega arith) ∙ sym (getD-bits (unpacked p) k ∙ ap (λ (b : Bool). cond b 1 0) (getD-unpacked p k h′)));
       rest =
-        ext-getD 0 (drop n o′) (drop n o) (length-drop n o′ ∙ ap (λ (x : ℕ). x - n) l ∙ sym (length-drop n o))
-        (λ k h. getD-drop n o′ k 0 ∙ w .rest (n + k) (omega arith) ∙ sym (getD-drop n o k 0)) }
+          ext-getD 0 (drop n o′) (drop n o) (length-drop n o′ ∙ ap (λ (x : ℕ). x - n) l ∙ sym (length-drop n o))
+          (λ k h. getD-drop n o′ k 0 ∙ w .rest (n + k) (omega arith) ∙ sym (getD-drop n o k 0));
+    }
 
 -- a picture that has been read up to a place
 pub record Reading (n m : ℕ) (s ws : List ℕ) (at : ℕ) : Type 0 where
@@ -128,8 +143,10 @@ pub record Reading (n m : ℕ) (s ws : List ℕ) (at : ℕ) : Type 0 where
   pub neat : (k : ℕ) → k < at → getD s k 0 ≤ 1
   pub done : (k : ℕ) → k < at → bitAt ws m k ≡ eqb (getD s k 0) 1
   pub blank : (k : ℕ) → at ≤ k → bitAt ws m k ≡ false
+
 abbrev pub no-words : List ℕ
 no-words = 0 ∷ 0 ∷ 0 ∷ 0 ∷ 0 ∷ 0 ∷ 0 ∷ 0 ∷ []
+
 zeros : (x : ℕ) → getD no-words x 0 ≡ 0
 zeros zero = refl
 zeros (suc zero) = refl
@@ -140,13 +157,17 @@ zeros (suc (suc (suc (suc (suc zero))))) = refl
 zeros (suc (suc (suc (suc (suc (suc zero)))))) = refl
 zeros (suc (suc (suc (suc (suc (suc (suc zero))))))) = refl
 zeros (suc (suc (suc (suc (suc (suc (suc (suc x)))))))) = refl
+
 pub bitAt-zeros : (m k : ℕ) → bitAt no-words m k ≡ false
 bitAt-zeros m k = ap (λ (x : ℕ). bit x (k % (m * m))) (zeros (k / (m * m))) ∙ bit-zero (k % (m * m))
+
 pub reading-none : (n m : ℕ) (s : List ℕ) → Reading n m s no-words 0
 reading-none n m s = record { long = refl; neat = λ k h. absurd (omega arith); done = λ k h. absurd (omega arith); blank = λ k h. bitAt-zeros m k }
+
 or-false : (b : Bool) → ((true && b) || false) ≡ b
 or-false true = refl
 or-false false = refl
+
 pub reading-more : (n m : ℕ) (s ws : List ℕ) (at w : ℕ) (spot : Spot) → n ≤ 8 → SpotAt n at m spot → getD s at 0 ≤ 1 → ((j : ℕ) → bit w j ≡ ((eqb j (spot .place) && eqb (getD s at 0) 1) || bit (getD ws (spot .relation) 0) j)) → Reading n m s ws at → Reading n m s (set ws (spot .relation) w) (at + 1)
 reading-more n m s ws at w spot few here small f r =
     let b : Bool = eqb (getD s at 0) 1 in
@@ -157,16 +178,22 @@ reading-more n m s ws at w spot few here small f r =
       long = length-set ws (spot .relation) w ∙ r .long;
       neat = below-more _ _ (r .neat) small;
       done = below-more _ _ (λ k h. each k ∙ ap (λ (x : Bool). (x && b) || bitAt ws m k) (ne-eqb k at (omega arith)) ∙ r .done k h) (each at ∙ ap (λ (x : Bool). (x && b) || bitAt ws m at) (eq-eqb at at refl) ∙ ap (λ (x : Bool). (true && b) || x) (r .blank at (omega arith)) ∙ or-false b);
-      blank = λ k h. each k ∙ ap (λ (x : Bool). (x && b) || bitAt ws m k) (ne-eqb k at (omega arith)) ∙ r .blank k (omega arith) }
+      blank = λ k h. each k ∙ ap (λ (x : Bool). (x && b) || bitAt ws m k) (ne-eqb k at (omega arith)) ∙ r .blank k (omega arith);
+    }
+
 bit-of : (x : ℕ) → x ≤ 1 → x ≡ cond (eqb x 1) 1 0
 bit-of zero h = refl
 bit-of (suc zero) h = refl
 bit-of (suc (suc x)) h = absurd (omega arith)
+
 pub reading-all : (n m : ℕ) (s ws : List ℕ) (at : ℕ) → n ≤ 8 → m ≤ 8 → at ≡ n * (m * m) → length s ≡ n * (m * m) → Reading n m s ws at → Packs n m s (record { words = ws; relations = n; things = m })
 reading-all n m s ws at hn hm e l r =
     let p : Packed = record { words = ws; relations = n; things = m } in
     record {
-      fits = record { long = r .long; few = hn; small = hm }; relations = refl; things = refl;
+      fits = record { long = r .long; few = hn; small = hm };
+      relations = refl;
+      things = refl;
       bytes =
-        ext-getD 0 s (bits (unpacked p)) (l ∙ sym (length-bits (unpacked p) ∙ length-unpacked p))
-        (λ k h. bit-of (getD s k 0) (r .neat k (omega arith)) ∙ ap (λ (b : Bool). cond b 1 0) (sym (getD-unpacked p k (omega arith) ∙ r .done k (omega arith))) ∙ sym (getD-bits (unpacked p) k)) }
+          ext-getD 0 s (bits (unpacked p)) (l ∙ sym (length-bits (unpacked p) ∙ length-unpacked p))
+          (λ k h. bit-of (getD s k 0) (r .neat k (omega arith)) ∙ ap (λ (b : Bool). cond b 1 0) (sym (getD-unpacked p k (omega arith) ∙ r .done k (omega arith))) ∙ sym (getD-bits (unpacked p) k));
+    }

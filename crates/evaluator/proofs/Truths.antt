@@ -21,8 +21,10 @@ use Rattle.evaluator.specs.Evaluating.{ShowsE}
 module _ (p : Packed) where
   pub within-holds : (v : List ℕ) (x y : ℕ) (b : Bool) → b ≡ every (p .things) (λ i. every (p .things) (λ j. not (matrix (p .things) x i j) || matrix (p .things) y i j)) → (a : Expression × Expression) → ShowsE p v (a .0) x × ShowsE p v (a .1) y → b ≡ holds (p .things) (unpacked p) v (within (a .0) (a .1))
   within-holds v x y b q a s = q ∙ every-cong (p .things) _ _ (λ i hi. every-cong (p .things) _ _ (λ j hj. let f = s .0 i j hi hj in let g = s .1 i j hi hj in rw (f, g) refl))
+
   pub nonempty-holds : (v : List ℕ) (x : ℕ) (b : Bool) → b ≡ any (p .things) (λ i. any (p .things) (λ j. matrix (p .things) x i j)) → (a : Expression) → ShowsE p v a x → b ≡ holds (p .things) (unpacked p) v (nonempty a)
   nonempty-holds v x b q a s = q ∙ any-cong (p .things) _ _ (λ i hi. any-cong (p .things) _ _ (λ j hj. s i j hi hj))
+
   -- what the sentence says of the thing that is spoken of now
   pub holds-now : (v v′ : Environment) (s : List ℕ) (at k end : ℕ) (b : Bool) → Extended (p .things) v k v′ → Stands writeS (fineS (p .relations) (v′ .count)) s at end (λ c. b ≡ holds (p .things) (unpacked p) (seen v′) c) → (c : Sentence) (t : List ℕ) → drop at s ≡ writeS c ++ t → b ≡ holds (p .things) (unpacked p) (k ∷ seen v) c
   holds-now v v′ s at k end b e f c t q = stands-one writeS (fineS (p .relations) (v′ .count)) s at end _ uniqueS f c t q ∙ ap (λ (l : List ℕ). holds (p .things) (unpacked p) l c) (e .newest)

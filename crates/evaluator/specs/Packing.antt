@@ -17,6 +17,7 @@ pub record Fits (relations things : ℕ) (words : List ℕ) : Type 0 where
   pub long : length words ≡ 8
   pub few : relations ≤ 8
   pub small : things ≤ 8
+
 abbrev pub FitsP : Packed → Type 0
 FitsP p = Fits (p .relations) (p .things) (p .words)
 
@@ -27,6 +28,7 @@ bitAt ws m k = bit (getD ws (k / (m * m)) 0) (k % (m * m))
 -- how many bits there are, and the picture that they are
 abbrev pub size : Packed → ℕ
 size p = p .relations * (p .things * p .things)
+
 abbrev pub unpacked : Packed → Picture
 unpacked p = map (bitAt (p .words) (p .things)) (counting 0 (size p))
 
@@ -53,6 +55,7 @@ pub record Packs (n m : ℕ) (s : List ℕ) (p : Packed) : Type 0 where
   pub relations : p .relations ≡ n
   pub things : p .things ≡ m
   pub bytes : s ≡ bits (unpacked p)
+
 abbrev pub PackSays : ℕ → ℕ → List ℕ → Option Packed → Type 0
 PackSays n m s None = n ≤ 8 → m ≤ 8 → (q : Picture) → length q ≡ n * (m * m) → s ≡ bits q → ⊥
 PackSays n m s (Some p) = Packs n m s p

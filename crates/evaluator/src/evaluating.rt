@@ -54,7 +54,10 @@ pub struct Truth {
 fn silence() -> Environment
     ensures { λ r. ⌜ Silent r ⌝ }
 {
-    Environment { things: [0, 0, 0, 0], count: 0 }
+    Environment {
+        things: [0, 0, 0, 0],
+        count: 0,
+    }
 }
 
 // One thing more spoken of.
@@ -63,7 +66,10 @@ fn extended(spoken: Environment, thing: usize, things: usize) -> Environment
     ensures { λ r. ⌜ Extended things spoken thing r ⌝ }
 {
     let [first, second, third, _] = spoken.things;
-    Environment { things: [thing, first, second, third], count: spoken.count + 1 }
+    Environment {
+        things: [thing, first, second, third],
+        count: spoken.count + 1,
+    }
 }
 
 fn expression_value(bytes: &[u8], at: usize, picture: &Packed, spoken: Environment) -> Option<Value>
@@ -75,7 +81,10 @@ fn expression_value(bytes: &[u8], at: usize, picture: &Packed, spoken: Environme
         ExpressionHead::Named(number) => {
             let relation = number as usize;
             if relation < picture.relations {
-                Some(Value { word: picture.words[relation], end: at + 2 })
+                Some(Value {
+                    word: picture.words[relation],
+                    end: at + 2,
+                })
             } else {
                 None
             }
@@ -83,20 +92,35 @@ fn expression_value(bytes: &[u8], at: usize, picture: &Packed, spoken: Environme
         ExpressionHead::Thing(number) => {
             let thing = number as usize;
             if thing < spoken.count {
-                Some(Value { word: single(spoken.things[thing], picture.things), end: at + 2 })
+                Some(Value {
+                    word: single(spoken.things[thing], picture.things),
+                    end: at + 2,
+                })
             } else {
                 None
             }
         }
-        ExpressionHead::Identity => Some(Value { word: identity(picture.things), end: at + 1 }),
-        ExpressionHead::Empty => Some(Value { word: 0, end: at + 1 }),
+        ExpressionHead::Identity => Some(Value {
+            word: identity(picture.things),
+            end: at + 1,
+        }),
+        ExpressionHead::Empty => Some(Value {
+            word: 0,
+            end: at + 1,
+        }),
         ExpressionHead::Unary(operator) => {
             let one = expression_value(bytes, at + 1, picture, spoken)?;
-            Some(Value { word: transformed(operator, one.word, picture.things), end: one.end })
+            Some(Value {
+                word: transformed(operator, one.word, picture.things),
+                end: one.end,
+            })
         }
         ExpressionHead::Binary(operator) => {
             let both = pair_values(bytes, at + 1, picture, spoken)?;
-            Some(Value { word: combined(operator, both.one, both.other, picture.things), end: both.end })
+            Some(Value {
+                word: combined(operator, both.one, both.other, picture.things),
+                end: both.end,
+            })
         }
     }
 }
@@ -107,7 +131,11 @@ fn pair_values(bytes: &[u8], at: usize, picture: &Packed, spoken: Environment) -
 {
     let one = expression_value(bytes, at, picture, spoken)?;
     let other = expression_value(bytes, one.end, picture, spoken)?;
-    Some(Values { one: one.word, other: other.word, end: other.end })
+    Some(Values {
+        one: one.word,
+        other: other.word,
+        end: other.end,
+    })
 }
 
 fn sentence_truth(bytes: &[u8], at: usize, picture: &Packed, spoken: Environment) -> Option<Truth>
@@ -118,27 +146,45 @@ fn sentence_truth(bytes: &[u8], at: usize, picture: &Packed, spoken: Environment
     match head {
         SentenceHead::Within => {
             let both = pair_values(bytes, at + 1, picture, spoken)?;
-            Some(Truth { holds: within(both.one, both.other, picture.things), end: both.end })
+            Some(Truth {
+                holds: within(both.one, both.other, picture.things),
+                end: both.end,
+            })
         }
         SentenceHead::Nonempty => {
             let value = expression_value(bytes, at + 1, picture, spoken)?;
-            Some(Truth { holds: nonempty(value.word, picture.things), end: value.end })
+            Some(Truth {
+                holds: nonempty(value.word, picture.things),
+                end: value.end,
+            })
         }
         SentenceHead::Not => {
             let inner = sentence_truth(bytes, at + 1, picture, spoken)?;
-            Some(Truth { holds: !inner.holds, end: inner.end })
+            Some(Truth {
+                holds: !inner.holds,
+                end: inner.end,
+            })
         }
         SentenceHead::Both => {
             let one = sentence_truth(bytes, at + 1, picture, spoken)?;
             let other = sentence_truth(bytes, one.end, picture, spoken)?;
-            Some(Truth { holds: one.holds & other.holds, end: other.end })
+            Some(Truth {
+                holds: one.holds & other.holds,
+                end: other.end,
+            })
         }
         SentenceHead::ForEvery => {
             if spoken.count < DEEPEST as usize {
-                let scope = Scope { relations: picture.relations as u8, spoken: spoken.count as u8 + 1 };
+                let scope = Scope {
+                    relations: picture.relations as u8,
+                    spoken: spoken.count as u8 + 1,
+                };
                 let body = sentence_extent(bytes, at + 1, scope)?;
                 let holds = for_every(bytes, at + 1, picture, spoken)?;
-                Some(Truth { holds, end: body.end })
+                Some(Truth {
+                    holds,
+                    end: body.end,
+                })
             } else {
                 None
             }
@@ -174,5 +220,9 @@ pub fn is_of(description: &[u8], picture: &Packed) -> Option<bool>
         return None;
     }
     let truth = sentence_truth(description, 1, picture, silence())?;
-    if truth.end == description.len() { Some(truth.holds) } else { None }
+    if truth.end == description.len() {
+        Some(truth.holds)
+    } else {
+        None
+    }
 }

@@ -27,7 +27,10 @@ pub fn spot_at(place: usize, relations: usize, things: usize) -> Spot
     ensures { λ r. ⌜ SpotAt relations place things r ⌝ }
 {
     let pairs = pairs(things);
-    Spot { relation: place / pairs, place: place % pairs }
+    Spot {
+        relation: place / pairs,
+        place: place % pairs,
+    }
 }
 
 // Reads a picture from its bits, one a byte; None where they are not that.
@@ -49,7 +52,11 @@ pub fn pack(bits: &[u8], relations: usize, things: usize) -> Option<Packed>
         let spot = spot_at(place, relations, things);
         words[spot.relation] = put(words[spot.relation], spot.place, bits[place] == 1);
     }
-    Some(Packed { words, relations, things })
+    Some(Packed {
+        words,
+        relations,
+        things,
+    })
 }
 
 // Writes a picture's bits, one a byte, first into out, and leaves the rest as it was.

@@ -1,0 +1,2 @@
+-- each answer keeps the promise
+pub mod Answering

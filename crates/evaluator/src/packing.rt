@@ -4,9 +4,9 @@ ghost use mathlib.Core.Path.{_≡_};
 ghost use Prim.Native.Nat.{ℕ, _*_, _<_, _≤_};
 ghost use lib.ListN.{length};
 ghost use Rattle.evaluator.specs.Packing.{FitsP, size, SpotAt, Unpacks, PackSays};
+use matrices::is_set;
 use matrices::pairs;
 use matrices::put;
-use matrices::test;
 
 #[derive(Clone, Copy)]
 pub struct Packed {
@@ -66,6 +66,6 @@ pub fn unpack(picture: &Packed, out: &mut [u8])
 {
     for place in 0..picture.relations * pairs(picture.things) {
         let spot = spot_at(place, picture.relations, picture.things);
-        out[place] = test(picture.words[spot.relation], spot.place) as u8;
+        out[place] = is_set(picture.words[spot.relation], spot.place) as u8;
     }
 }

@@ -8,8 +8,8 @@ use evaluator::Packed;
 use evaluator::is_of;
 use evaluator::spot_at;
 use matrices::flip;
+use matrices::is_set;
 use matrices::pairs;
-use matrices::test;
 
 // The picture in which no relation holds of anything: the first in order.
 fn blank(relations: usize, things: usize) -> Packed
@@ -35,7 +35,7 @@ fn advance(picture: &mut Packed) -> bool
         let spot = spot_at(place, relations, things);
         let word = picture.words[spot.relation];
         picture.words[spot.relation] = flip(word, spot.place);
-        if !test(word, spot.place) {
+        if !is_set(word, spot.place) {
             return true;
         }
     }

@@ -37,7 +37,7 @@ pub fn pair_at(place: usize, things: usize) -> Pair
 }
 
 // Whether the bit at a place is 1.
-pub fn test(word: u64, place: usize) -> bool
+pub fn is_set(word: u64, place: usize) -> bool
     requires { ⌜ place < 64 ⌝ }
     ensures { λ r. ⌜ r ≡ bit word place ⌝ }
 {
@@ -65,7 +65,7 @@ pub fn has(word: u64, things: usize, first: usize, second: usize) -> bool
     requires { ⌜ things ≤ 8 ⌝ ∗ ⌜ first < things ⌝ ∗ ⌜ second < things ⌝ }
     ensures { λ r. ⌜ r ≡ matrix things word first second ⌝ }
 {
-    test(word, first * things + second)
+    is_set(word, first * things + second)
 }
 
 // Whether some thing is reached from the first by one relation and leads to the second by the other.

@@ -7,10 +7,10 @@ use Rattle.matrices.specs.Words.{bit}
 use Rattle.evaluator.specs.Packing.{size, bitAt}
 use Rattle.exhaustive.proofs.Counting.{Carried, carried-none, carried-all, carried-more, raised, bit-there}
 use Rattle.exhaustive.proofs.advance.Needs as need
-use Rattle.exhaustive.proofs.advance.Needs.{After-test}
+use Rattle.exhaustive.proofs.advance.Needs.{After-is-set}
 
 -- the bits from the loop's place on have been carried
-module _ (c : After-test) where
+module _ (c : After-is-set) where
   abbrev at : ℕ
   at = c .loop-place .place - 1
 
@@ -20,21 +20,21 @@ module _ (c : After-test) where
   inside : at < size (c .args .picture .now)
   inside = let e : c .args .picture .now .relations * c .pairs .result ≡ size (c .args .picture .now) = ap (λ (x : ℕ). c .args .picture .now .relations * x) (c .pairs .ensures .0) in omega arith
 
-  tested : c .test .result ≡ bitAt (c .loop-place .picture .words) (c .args .picture .now .things) at
-  tested = c .test .ensures ∙ bit-there (c .args .picture .now) (c .loop-place .picture) at (c .flip .result) (c .spot-at-spot .result) carried inside (c .spot-at-spot .ensures) (c .flip .ensures)
+  tested : c .is-set .result ≡ bitAt (c .loop-place .picture .words) (c .args .picture .now .things) at
+  tested = c .is-set .ensures ∙ bit-there (c .args .picture .now) (c .loop-place .picture) at (c .flip .result) (c .spot-at-spot .result) carried inside (c .spot-at-spot .ensures) (c .flip .ensures)
 
 pub loop-place-holds : need.loop-place-holds
 loop-place-holds c = carried-none _ _ (c .pre) (let e : c .args .picture .now .relations * c .pairs .result ≡ size (c .args .picture .now) = ap (λ (x : ℕ). c .args .picture .now .relations * x) (c .pairs .ensures .0) in omega arith)
 
 pub loop-place-again : need.loop-place-again
 loop-place-again c =
-    let d = need.at·loop-place-again c .After-test in
-    carried-more (c .args .picture .now) (c .loop-place .picture) (at d) (c .flip .result) (c .spot-at-spot .result) (carried d) (inside d) (c .spot-at-spot .ensures) (c .flip .ensures) (sym (tested d) ∙ c .if-not-test .left)
+    let d = need.at·loop-place-again c .After-is-set in
+    carried-more (c .args .picture .now) (c .loop-place .picture) (at d) (c .flip .result) (c .spot-at-spot .result) (carried d) (inside d) (c .spot-at-spot .ensures) (c .flip .ensures) (sym (tested d) ∙ c .if-not-is-set .left)
 
-pub returns-then-not-test : need.returns-then-not-test
-returns-then-not-test c =
-    let d = need.at·returns-then-not-test c .After-test in
-    raised (c .args .picture .now) (c .loop-place .picture) (at d) (c .flip .result) (c .spot-at-spot .result) (carried d) (inside d) (c .spot-at-spot .ensures) (c .flip .ensures) (sym (tested d) ∙ c .if-not-test .taken)
+pub returns-then-not-is-set : need.returns-then-not-is-set
+returns-then-not-is-set c =
+    let d = need.at·returns-then-not-is-set c .After-is-set in
+    raised (c .args .picture .now) (c .loop-place .picture) (at d) (c .flip .result) (c .spot-at-spot .result) (carried d) (inside d) (c .spot-at-spot .ensures) (c .flip .ensures) (sym (tested d) ∙ c .if-not-is-set .taken)
 
 pub returns : need.returns
 returns c = carried-all (c .args .picture .now) (c .loop-place .picture) (c .loop-place .place) (omega arith) (c .loop-place .inv)

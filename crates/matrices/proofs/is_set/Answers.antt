@@ -1,5 +1,5 @@
 use Rattle.matrices.proofs.Bits.{bit-test}
-use Rattle.matrices.proofs.test.Needs as need
+use Rattle.matrices.proofs.is_set.Needs as need
 
 pub returns : need.returns
 returns c = bit-test _ _

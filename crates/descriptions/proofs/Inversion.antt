@@ -1,9 +1,8 @@
 -- The head that the bytes begin with says what they are the writing of.
 use mathlib.Core.Path.{_≡_, refl, sym, _∙_, ap, subst}
-use mathlib.Core.List.{List, [], _∷_, _++_}
+use mathlib.Core.List.{List, _∷_, _++_}
 use Prim.Native.Nat.{ℕ}
-use Rattle.std.specs.declared.option.Option.{Option}
-use Rattle.std.specs.declared.option.Option.the-variants.{Some, None}
+use Rattle.std.specs.declared.option.Option.the-variants.{Some}
 use Rattle.descriptions.specs.declared.Unary.{Unary}
 use Rattle.descriptions.specs.declared.Unary.the-variants.{Converse, Closure, Domain}
 use Rattle.descriptions.specs.declared.Binary.{Binary}
@@ -14,7 +13,7 @@ use Rattle.descriptions.specs.declared.heads.SentenceHead.{SentenceHead}
 use Rattle.descriptions.specs.declared.heads.SentenceHead.the-variants.{Within, Nonempty, Not, Both, ForEvery}
 use Rattle.descriptions.specs.Meaning.{Expression, named, thing, identity, empty, unary, binary, Sentence, within, nonempty, negation, both, for-every}
 use Rattle.descriptions.specs.Bytes.{unaryByte, binaryByte, writeE, writeS}
-use Rattle.descriptions.specs.Heads.{headE, headS, headOfE, headOfS}
+use Rattle.descriptions.specs.Heads.{headOfE, headOfS}
 
 abbrev pub topE : Expression → ExpressionHead
 topE (named r) = head.Named r

@@ -1,5 +1,5 @@
 -- Where parts end, from where their operands do.
-use mathlib.Core.Path.{_≡_, refl, sym, _∙_, ap}
+use mathlib.Core.Path.{_≡_, refl, _∙_, ap}
 use mathlib.Core.List.{List}
 use Prim.Native.Nat.{ℕ, _+_, _<_, _≤_, max}
 use native.Mathlib.Omega.{arith}
@@ -15,9 +15,9 @@ use Rattle.descriptions.specs.declared.extents.Scope.{Scope}
 use Rattle.descriptions.specs.declared.extents.Extent.{Extent}
 use Rattle.descriptions.specs.declared.extents.Kind.{Kind}
 use Rattle.descriptions.specs.declared.extents.Kind.the-variants.{OfExpression, OfSentence}
-use Rattle.descriptions.specs.Bytes.{writeE, writeS, fineE, fineS, depth}
+use Rattle.descriptions.specs.Bytes.{depth}
 use Rattle.descriptions.specs.Heads.{HeadE, HeadS}
-use Rattle.descriptions.specs.Reading.{Stands, ExtentE, ExtentS, OperandExtent, PairExtent}
+use Rattle.descriptions.specs.Reading.{ExtentE, ExtentS, OperandExtent, PairExtent}
 use Rattle.descriptions.proofs.Unique.{uniqueE, uniqueS}
 use Rattle.descriptions.proofs.Parts.{operator-read, operator-stands, operator-absent, pair-stands, pair-absent, pair-half}
 use Rattle.descriptions.proofs.Operators.{unary-operator, binary-operator, within-operator, nonempty-operator, negation-operator, both-operator, for-every-operator, begins-unary, begins-binary, begins}

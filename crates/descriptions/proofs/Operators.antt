@@ -1,13 +1,12 @@
 -- The operators of expressions and sentences; what stands at a place where there is no operator.
 use mathlib.Core.Path.{_≡_, refl, sym, _∙_, ap, subst}
 use mathlib.Core.Bool.{Bool, true, false, _&&_}
-use mathlib.Core.List.{List, [], _∷_, _++_}
+use mathlib.Core.List.{List, _∷_, _++_}
 use Prim.Native.Nat.{ℕ, _+_, _<_, _≤_}
 use native.Mathlib.Omega.{arith}
 use lib.Dec.{ltb}
 use lib.ListN.{length, drop}
 use Rattle.std.proofs.shelf.Tests.{lt-ltb, le-ltb, and-parts, both-ways}
-use Rattle.std.specs.declared.option.Option.{Option}
 use Rattle.std.specs.declared.option.Option.the-variants.{Some, None}
 use Rattle.descriptions.specs.declared.Unary.{Unary}
 use Rattle.descriptions.specs.declared.Binary.{Binary}

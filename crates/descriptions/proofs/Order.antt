@@ -1,13 +1,14 @@
 -- The order of pictures of one size is strict and total.
 use mathlib.Core.Path.{_≡_, refl, ap}
-use mathlib.Core.Bool.{Bool, true, false, cond}
+use mathlib.Core.Bool.{true, false, cond}
 use mathlib.Core.Logic.{_⊎_, inl, inr}
-use mathlib.Core.List.{List, [], _∷_}
-use Prim.Native.Nat.{ℕ, zero, suc, _+_, _^_, _<_, _≤_}
+use mathlib.Core.List.{[], _∷_}
+use Prim.Native.Nat.{ℕ, suc, _+_, _^_, _<_}
 use native.Mathlib.Nat.{pow-succ'}
 use native.Mathlib.Omega.{arith}
 use lib.ListN.{length, getD}
 use Rattle.descriptions.specs.Pictures.{Picture, Before, at-once, later}
+use Rattle.descriptions.specs.Theorems.{Strict-order}
 
 pub before-differs : {p q : Picture} → Before p q → p ≡ q → ⊥
 before-differs at-once e = let z : _≡_ {A = ℕ} 0 1 = cc in omega arith
@@ -56,3 +57,6 @@ pub after-falls : {p q : Picture} → Before p q → length p ≡ length q → a
 after-falls (at-once {p = p} {q = q}) l = let a = after-below q in let e : 2 ^ length q ≡ 2 ^ length p = ap (λ (x : ℕ). 2 ^ x) (omega arith) in omega arith
 after-falls (later {b = true} {p = p} {q = q} b) l = let a = after-falls b (omega arith) in omega arith
 after-falls (later {b = false} {p = p} {q = q} b) l = let a = after-falls b (omega arith) in let e : 2 ^ length q ≡ 2 ^ length p = ap (λ (x : ℕ). 2 ^ x) (omega arith) in omega arith
+
+pub strict-order : Strict-order
+strict-order = record { irreflexive = λ p b. before-differs b refl; transitive = λ p q r b c. before-trans b c; total = before-total }

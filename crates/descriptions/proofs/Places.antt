@@ -1,11 +1,11 @@
 -- What stands at a place of the bytes.
-use mathlib.Core.Path.{_≡_, refl, _∙_, ap}
+use mathlib.Core.Path.{_≡_, _∙_, ap}
 use mathlib.Core.List.{List, [], _∷_}
-use Prim.Native.Nat.{ℕ, _+_, _<_, _≤_}
-use lib.ListN.{length, getD, drop}
+use Prim.Native.Nat.{ℕ, _+_, _≤_}
+use lib.ListN.{length, drop}
 use Rattle.std.specs.declared.option.Option.{Option}
 use Rattle.std.specs.declared.option.Option.the-variants.{None}
-use Rattle.std.proofs.shelf.Lists.{drop-all, drop-more}
+use Rattle.std.proofs.shelf.Lists.{drop-all}
 
 -- nothing begins past the end
 pub past : {A : Type 0} (f : List ℕ → Option A) (s : List ℕ) (at : ℕ) → f [] ≡ None → length s ≤ at → f (drop at s) ≡ None

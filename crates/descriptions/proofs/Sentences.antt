@@ -1,8 +1,8 @@
 -- From a sentence that fills the bytes to a description.
-use mathlib.Core.Path.{_≡_, refl, sym, _∙_, ap, subst}
-use mathlib.Core.Bool.{Bool, true}
+use mathlib.Core.Path.{_≡_, sym, _∙_, ap, subst}
+use mathlib.Core.Bool.{true}
 use mathlib.Core.List.{List, [], _∷_, _++_}
-use Prim.Native.Nat.{ℕ, _+_, _-_, _<_, _≤_}
+use Prim.Native.Nat.{ℕ, _-_, _≤_}
 use native.Mathlib.Omega.{arith}
 use lib.ListN.{length, drop}
 use Rattle.std.proofs.shelf.Lists.{append-nil, length-drop, drop-all}
@@ -23,9 +23,6 @@ sentence-bytes s n d e r =
     let q = sym (r .written) ∙ e in
     let c = head-same (d .relations) n _ _ q in
     (c, sym (append-nil (writeS (d .sentence)) ∙ tail-same (d .relations) n _ _ q), subst (λ (x : ℕ). fineS x 0 (d .sentence) ≡ true) c (r .fine))
-
-pub no-bytes : (s : List ℕ) (d : Description) → length s ≤ 0 → Reads s d → ⊥
-no-bytes s d h r = let e = ap length (r .written) in omega arith
 
 module _ (s : List ℕ) (n : ℕ) (first : s ≡ n ∷ drop 1 s) where
   pub no-sentence-there : (N : Sentence → Type 0) → ((c : Sentence) → N c → ⊥) → Absent writeS (fineS n 0) s 1 N → (d : Description) → Reads s d → ⊥

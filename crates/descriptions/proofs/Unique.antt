@@ -5,8 +5,8 @@ use Prim.Native.Nat.{ℕ}
 use Rattle.std.proofs.shelf.Lists.{append-nil}
 use Rattle.descriptions.specs.declared.heads.ExpressionHead.the-variants as head
 use Rattle.descriptions.specs.declared.heads.SentenceHead.the-variants.{Within, Nonempty, Not, Both, ForEvery}
-use Rattle.descriptions.specs.Meaning.{Expression, named, thing, identity, empty, unary, binary, Sentence, within, nonempty, negation, both, for-every, Description}
-use Rattle.descriptions.specs.Bytes.{unaryByte, binaryByte, writeE, writeS, Reads}
+use Rattle.descriptions.specs.Meaning.{Expression, named, thing, identity, empty, unary, binary, within, nonempty, negation, both, for-every}
+use Rattle.descriptions.specs.Bytes.{unaryByte, binaryByte, writeE, writeS}
 use Rattle.descriptions.specs.Reading.{writePair}
 use Rattle.descriptions.specs.Theorems.{One-description}
 use Rattle.descriptions.proofs.Inversion.{made-byE, made-byS, head-of-unary, head-of-binary}
@@ -27,9 +27,6 @@ pair-apart write x f g y s t e =
     let p = f (y .0) (write (x .1) ++ s) (write (y .1) ++ t) e1 in
     let q = g (y .1) s t (p .1) in
     (λ i. (p .0 i, q .0 i), q .1)
-
-pub pair-unique : {A : Type 0} (write : A → List ℕ) → Unique write → Unique (writePair write)
-pair-unique write u x = pair-apart write x (u (x .0)) (u (x .1))
 
 -- an operator over operands that are told apart
 module _ {X A : Type 0} (writeX : X → List ℕ) (writeA : A → List ℕ) (h : ℕ) (op : A → X) (writes : (a : A) → writeX (op a) ≡ h ∷ writeA a) where

@@ -1,7 +1,7 @@
 -- Worked examples, as theorems about the definitions.
 use mathlib.Core.Path.{_≡_}
 use mathlib.Core.Bool.{true, false}
-use mathlib.Core.List.{List, [], _∷_}
+use mathlib.Core.List.{[], _∷_}
 use lib.ListN.{length}
 use Rattle.descriptions.specs.declared.Unary.the-variants.{Closure, Domain}
 use Rattle.descriptions.specs.declared.Binary.the-variants.{Intersection}

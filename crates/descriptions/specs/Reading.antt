@@ -1,8 +1,8 @@
 -- What it says that a part of a description is read at a place: one contract for every recursion over bytes.
 use mathlib.Core.Path.{_≡_}
 use mathlib.Core.Bool.{Bool, true, _&&_}
-use mathlib.Core.List.{List, _∷_, _++_}
-use Prim.Native.Nat.{ℕ, _+_, _<_, _≤_, max}
+use mathlib.Core.List.{List, _++_}
+use Prim.Native.Nat.{ℕ, _<_, _≤_, max}
 use lib.ListN.{length, drop}
 use Rattle.std.specs.declared.option.Option.{Option}
 use Rattle.std.specs.declared.option.Option.the-variants.{Some, None}
@@ -11,7 +11,7 @@ use Rattle.descriptions.specs.declared.extents.Extent.{Extent}
 use Rattle.descriptions.specs.declared.extents.Kind.{Kind}
 use Rattle.descriptions.specs.declared.extents.Kind.the-variants.{OfExpression, OfSentence}
 use Rattle.descriptions.specs.declared.whole.Outline.{Outline}
-use Rattle.descriptions.specs.Meaning.{Expression, Sentence, Description}
+use Rattle.descriptions.specs.Meaning.{Description}
 use Rattle.descriptions.specs.Bytes.{writeE, writeS, fineE, fineS, depth, Reads}
 
 -- a well-formed part is written in s from a place to another, and P holds of it

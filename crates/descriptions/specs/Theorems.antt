@@ -1,15 +1,22 @@
 -- What is proved of descriptions themselves.
 use mathlib.Core.Path.{_≡_}
+use mathlib.Core.Logic.{_⊎_}
 use mathlib.Core.List.{List}
 use Prim.Native.Nat.{ℕ, _*_, _<_}
 use lib.ListN.{length}
-use Rattle.descriptions.specs.Pictures.{Picture, relationOf}
+use Rattle.descriptions.specs.Pictures.{Picture, relationOf, Before}
 use Rattle.descriptions.specs.Meaning.{Description, of}
 use Rattle.descriptions.specs.Bytes.{Reads}
 
 -- pictures of m things for a description: a bit for each relation and pair
 abbrev pub Sized : Description → ℕ → Picture → Type 0
 Sized d m p = length p ≡ d .relations * (m * m)
+
+-- the order of pictures of one size is a strict total order
+pub record Strict-order : Type 0 where
+  pub irreflexive : (p : Picture) → Before p p → ⊥
+  pub transitive : (p q r : Picture) → Before p q → Before q r → Before p r
+  pub total : (p q : Picture) → length p ≡ length q → Before p q ⊎ ((p ≡ q) ⊎ Before q p)
 
 -- bytes are the writing of at most one description
 abbrev pub One-description : Type 0

@@ -1,6 +1,5 @@
 // Where an expression or a sentence ends, if a well-formed one is written at a place. Nothing is
 // built: the functions call one another over positions in the bytes, and what is left to read falls.
-ghost use Prim.Native.Nat.{ℕ};
 ghost use Rattle.descriptions.specs.Reading.{ExtentE, ExtentS, OperandExtent, PairExtent};
 use crate::heads::ExpressionHead;
 use crate::heads::SentenceHead;

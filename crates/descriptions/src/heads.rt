@@ -1,6 +1,5 @@
 // A head is what the writing of an expression or a sentence begins with: one byte, and for a
 // relation's or a thing's number one more.
-ghost use Prim.Native.Nat.{ℕ};
 ghost use Rattle.descriptions.specs.Heads.{ByteAt, HeadE, HeadS};
 use crate::Binary;
 use crate::Unary;

@@ -1,5 +1,5 @@
 // Descriptions of pictures: what they mean stands in specs/, how their bytes are read stands here.
-ghost use Rattle.descriptions.specs.Theorems.{One-description};
+ghost use Rattle.descriptions.specs.Theorems.{Strict-order, One-description};
 ghost use Rattle.descriptions.specs.Examples.{Worked-examples};
 
 // The first bytes of an expression or a sentence, as enums.
@@ -37,6 +37,13 @@ pub enum Binary {
     Intersection,
     Difference,
     Composition,
+}
+
+// Theorem: the order of pictures of one size is a strict total order.
+pub fn strict_order() -> u8
+    ensures { λ _. ⌜ Strict-order ⌝ }
+{
+    0
 }
 
 // Theorem: bytes are the writing of at most one description.

@@ -1,5 +1,4 @@
 // Bytes as a whole description: accepted if and only if they are the writing of one.
-ghost use Prim.Native.Nat.{ℕ};
 ghost use Rattle.descriptions.specs.Reading.{OutlineSays};
 use crate::extents::Scope;
 use crate::extents::sentence_extent;

@@ -1,8 +1,7 @@
 // Draws the first picture of at most three things of each description on standard input: a line of
 // decimal bytes each. Lines that begin with '#' say in words what is meant, and are written out.
 ghost use mathlib.Core.Path.{_≡_};
-ghost use Prim.Native.Nat.{ℕ, _≤_, _<_};
-ghost use lib.ListN.{length};
+ghost use Prim.Native.Nat.{_≤_, _<_};
 ghost use Rattle.draw.specs.Cells.{marked};
 use descriptions::outline_of;
 use pictures::Found;

@@ -6,7 +6,7 @@ use native.Mathlib.Omega.{arith}
 use lib.ListN.{length, getD, take}
 use Rattle.descriptions.specs.Meaning.{spoken}
 use Rattle.evaluator.specs.declared.evaluating.Environment.{Environment}
-use Rattle.evaluator.specs.Speaking.{seen, Sees, Extended}
+use Rattle.evaluator.specs.Speaking.{Sees, Extended}
 
 pub spoken-at : (l : List ℕ) (n x : ℕ) → x < n → spoken (take n l) x ≡ getD l x 0
 spoken-at l zero x h = absurd (omega arith)

@@ -1,11 +1,11 @@
 -- From a sentence that fills the bytes to the description that they are.
-use mathlib.Core.Path.{_≡_, refl, sym, _∙_, ap, subst}
+use mathlib.Core.Path.{_≡_, sym, _∙_, ap, subst}
 use mathlib.Core.Bool.{Bool}
-use mathlib.Core.List.{List, [], _∷_}
+use mathlib.Core.List.{List, _∷_}
 use Prim.Native.Nat.{ℕ, _≤_}
 use lib.ListN.{length, drop}
-use Rattle.std.specs.declared.option.Option.the-variants.{Some, None}
-use Rattle.descriptions.specs.Meaning.{Sentence, holds}
+use Rattle.std.specs.declared.option.Option.the-variants.{None}
+use Rattle.descriptions.specs.Meaning.{holds}
 use Rattle.descriptions.specs.Bytes.{writeS, fineS}
 use Rattle.descriptions.specs.Reading.{Stands, Absent}
 use Rattle.descriptions.proofs.Sentences.{no-sentence-there, not-whole, whole}

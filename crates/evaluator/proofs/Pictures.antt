@@ -1,16 +1,15 @@
 -- Pictures packed into words.
 use mathlib.Core.Path.{_≡_, refl, sym, _∙_, ap}
 use mathlib.Core.Bool.{Bool, true, false, _&&_, _||_, cond}
-use mathlib.Core.List.{List, [], _∷_, map}
-use mathlib.Core.Logic.{_⊎_, inl, inr, _≢_}
+use mathlib.Core.List.{List, [], _∷_}
+use mathlib.Core.Logic.{_⊎_, inl, inr}
 use Prim.Native.Nat.{ℕ, zero, suc, _+_, _-_, _*_, _/_, _%_, _<_, _≤_}
 use native.Mathlib.Nat.{add-mul, mul-assoc, add-assoc, suc-mul, mul-le-mul-right}
 use native.Mathlib.Omega.{arith}
 use borrow.Author.Count.{below-more}
 use lib.Dec.{eqb, ltb}
 use lib.ListN.{length, getD, set, take, drop}
-use Rattle.std.specs.Iters.{counting}
-use Rattle.std.proofs.shelf.Bits.{mul-le, div-mul-add, mod-mul-add, div-below, mod-below, div-add-mod'}
+use Rattle.std.proofs.shelf.Bits.{div-mul-add, mod-mul-add, div-below, mod-below, div-add-mod'}
 use Rattle.std.proofs.shelf.Counted.{getD-map-counting, length-map-counting}
 use Rattle.std.proofs.shelf.Lists.{ext-getD, length-take-le, length-drop, length-set, getD-take, getD-drop, getD-set-same, getD-set-other}
 use Rattle.std.proofs.shelf.Tests.{lt-ltb, eq-eqb, ne-eqb, eqb-true, cases-eq}
@@ -26,9 +25,6 @@ use Rattle.evaluator.specs.Packing.{bitAt, size, unpacked, bits, SpotAt, Unpac
 -- a relation's bits lie before those of the next
 pub row-fits : (r n q : ℕ) → r < n → r * q + q ≤ n * q
 row-fits r n q h = let a : suc r * q ≤ n * q = mul-le-mul-right q h in let e = suc-mul r q in omega arith
-
-pub size-small : (n m : ℕ) → n ≤ 8 → m ≤ 8 → n * (m * m) ≤ 512
-size-small n m hn hm = mul-le n (m * m) 8 64 hn (square m hm)
 
 place-sum : (m r i j : ℕ) → (r * m + i) * m + j ≡ r * (m * m) + (i * m + j)
 place-sum m r i j = ap (λ (x : ℕ). x + j) (add-mul (r * m) i m ∙ ap (λ (x : ℕ). x + i * m) (mul-assoc r m m)) ∙ add-assoc (r * (m * m)) (i * m) j
@@ -58,9 +54,6 @@ pub spot-is : (n k m : ℕ) → m ≤ 8 → k < n * (m * m) → SpotAt n k m (re
 spot-is n k m h l =
     let p = positive n (m * m) k l in
     record { relation = refl; place = refl; known = div-below k (m * m) n p l; low = let a = mod-below k (m * m) p in let s = square m h in omega arith }
-
-pub pairs-some : (n k m : ℕ) → k < n * (m * m) → m * m ≡ 0 → ⊥
-pairs-some n k m l e = let p = positive n (m * m) k l in omega arith
 
 -- bits written one a byte
 pub length-bits : (p : Picture) → length (bits p) ≡ length p
@@ -112,16 +105,6 @@ module _ (ws : List ℕ) (m place w : ℕ) (change : Bool → Bool → Bool) (st
 pub record Writing (p : Packed) (o o′ : List ℕ) (at : ℕ) : Type 0 where
   pub done : (k : ℕ) → k < at → getD o′ k 0 ≡ cond (bitAt (p .words) (p .things) k) 1 0
   pub rest : (k : ℕ) → at ≤ k → getD o′ k 0 ≡ getD o k 0
-
-pub writing-none : (p : Packed) (o : List ℕ) → Writing p o o 0
-writing-none p o = record { done = λ k h. absurd (omega arith); rest = λ k h. refl }
-
-pub writing-more : (p : Packed) (o o′ : List ℕ) (at x : ℕ) → at < length o′ → x ≡ cond (bitAt (p .words) (p .things) at) 1 0 → Writing p o o′ at → Writing p o (set o′ at x) (at + 1)
-writing-more p o o′ at x l e w =
-    record {
-      done = below-more _ _ (λ k h. let ne : k ≢ at = omega arith in getD-set-other o′ at k x 0 ne ∙ w .done k h) (getD-set-same o′ at x 0 l ∙ e);
-      rest = λ k h. let ne : k ≢ at = omega arith in getD-set-other o′ at k x 0 ne ∙ w .rest k (omega arith);
-    }
 
 pub writing-all : (p : Packed) (o o′ : List ℕ) (at : ℕ) → length o′ ≡ length o → at ≡ size p → size p ≤ length o → Writing p o o′ at → Unpacks p o o′
 writing-all p o o′ at l e fit w =

@@ -1,8 +1,8 @@
 -- The truth of a sentence, from its parts.
-use mathlib.Core.Path.{_≡_, refl, sym, _∙_, ap, subst}
-use mathlib.Core.Bool.{Bool, true, false, _&&_, _||_, not}
+use mathlib.Core.Path.{_≡_, refl, _∙_, ap}
+use mathlib.Core.Bool.{Bool, _||_, not}
 use mathlib.Core.List.{List, _∷_, _++_}
-use Prim.Native.Nat.{ℕ, _+_, _<_}
+use Prim.Native.Nat.{ℕ}
 use lib.ListN.{drop}
 use Rattle.descriptions.specs.Pictures.{any, every}
 use Rattle.descriptions.specs.Meaning.{Expression, Sentence, within, nonempty, holds}

@@ -1,7 +1,6 @@
 // Evaluation over bytes: an expression's relation as a word, a sentence's truth, each with where its
 // writing ends. 'For every' evaluates its sentence once for each thing.
-ghost use mathlib.Core.Path.{_≡_};
-ghost use Prim.Native.Nat.{ℕ, _+_, _<_, _≤_};
+ghost use Prim.Native.Nat.{_+_, _<_};
 ghost use Rattle.evaluator.specs.Packing.{FitsP};
 ghost use Rattle.evaluator.specs.Speaking.{Sees, Extended, Silent};
 ghost use Rattle.evaluator.specs.Evaluating.{ValueSays, ValuesSay, TruthSays, EverySaysIf, JudgedIf};

@@ -1,7 +1,6 @@
 // A picture packed into words: for each relation a word with a bit for each pair. Bits of the
 // picture are counted by relation, then by the first thing, then by the second.
-ghost use mathlib.Core.Path.{_≡_};
-ghost use Prim.Native.Nat.{ℕ, _*_, _<_, _≤_};
+ghost use Prim.Native.Nat.{_*_, _<_, _≤_};
 ghost use lib.ListN.{length};
 ghost use Rattle.evaluator.specs.Packing.{FitsP, size, SpotAt, Unpacks, PackSays};
 use matrices::is_set;

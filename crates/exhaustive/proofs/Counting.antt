@@ -1,20 +1,18 @@
 -- Counting up.
 use mathlib.Core.Path.{_≡_, refl, sym, _∙_, ap, subst}
 use mathlib.Core.Bool.{Bool, true, false, not, cond}
-use mathlib.Core.List.{List}
-use Prim.Native.Nat.{ℕ, zero, suc, _+_, _-_, _*_, _/_, _%_, _<_, _≤_}
+use Prim.Native.Nat.{ℕ, suc, _*_, _/_, _%_, _<_, _≤_}
 use native.Mathlib.Omega.{arith}
 use lib.Dec.{eqb}
 use lib.ListN.{length, getD, set}
 use Rattle.std.proofs.shelf.Lists.{length-set}
 use Rattle.std.proofs.shelf.Tests.{cases-order, eq-eqb, ne-eqb}
 use mathlib.Core.Logic.{inl, inr}
-use Rattle.descriptions.specs.Pictures.{Picture}
 use Rattle.descriptions.proofs.Order.{ones-last}
 use Rattle.matrices.specs.Words.{bit}
 use Rattle.evaluator.specs.declared.packing.Packed.{Packed}
 use Rattle.evaluator.specs.declared.packing.Spot.{Spot}
-use Rattle.evaluator.specs.Packing.{Fits, FitsP, bitAt, size, unpacked, SpotAt}
+use Rattle.evaluator.specs.Packing.{FitsP, bitAt, size, unpacked, SpotAt}
 use Rattle.evaluator.proofs.Pictures.{bitAt-changed, length-unpacked, getD-unpacked}
 use Rattle.exhaustive.specs.Trying.{Shaped, Advanced}
 use Rattle.exhaustive.proofs.Nexts.{raised-next}

@@ -7,19 +7,18 @@ use Prim.Native.Nat.{ℕ, _+_, _*_, _<_, _≤_}
 use native.Mathlib.Omega.{arith}
 use lib.ListN.{length}
 use borrow.Author.Count.{below-more}
-use Rattle.std.specs.declared.option.Option.the-variants.{Some, None}
+use Rattle.std.specs.declared.option.Option.the-variants.{None}
 use Rattle.descriptions.specs.Pictures.{Picture, Before}
 use Rattle.descriptions.specs.Meaning.{Description, of}
-use Rattle.descriptions.specs.Bytes.{Reads}
 use Rattle.descriptions.specs.Theorems.{Sized}
 use Rattle.descriptions.specs.First.{No-picture, First-of-size}
 use Rattle.descriptions.proofs.Unique.{one-description}
 use Rattle.descriptions.proofs.Order.{before-total, zeros-first, after, after-falls}
 use Rattle.evaluator.specs.declared.packing.Packed.{Packed}
-use Rattle.evaluator.specs.Packing.{size, unpacked}
+use Rattle.evaluator.specs.Packing.{unpacked}
 use Rattle.evaluator.specs.Evaluating.{Judged}
 use Rattle.evaluator.proofs.Pictures.{length-unpacked, getD-unpacked, no-words, bitAt-zeros}
-use Rattle.exhaustive.specs.Trying.{Shaped, Blank, Advanced, About, Tells, Reached, FirstOf, ReachedUpTo, FirstUpTo}
+use Rattle.exhaustive.specs.Trying.{Shaped, Blank, Advanced, About, Tells, Reached, FirstOf, ReachedUpTo}
 
 pub judged-tells : (s : List ℕ) (p : Packed) (b : Bool) → Judged p s b → Tells s p b
 judged-tells s p b j = record { tells = λ d r e. j .is-of ∙ ap (λ (x : Description). of x (p .things) (unpacked p)) (one-description s (j .description) d (j .reads) r) }

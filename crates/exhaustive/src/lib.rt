@@ -1,7 +1,6 @@
 // The first picture of a description by trying all pictures in order. It is slow and plain: what
 // any other engine answers is compared with it.
-ghost use mathlib.Core.Path.{_≡_};
-ghost use Prim.Native.Nat.{ℕ, _≤_};
+ghost use Prim.Native.Nat.{_≤_};
 ghost use Rattle.evaluator.specs.Packing.{FitsP};
 ghost use Rattle.exhaustive.specs.Trying.{Blank, Advanced, Tells, FirstOf, FirstUpTo};
 use evaluator::Packed;

@@ -27,9 +27,6 @@ positive (suc m) k h = omega arith
 pub pair-is : (place m : ℕ) → m ≤ 8 → place < m * m → PairAt place m (record { first = place / m; second = place % m })
 pair-is place m h l = record { first = refl; second = refl; first-below = div-below place m m (positive m place l) l; second-below = mod-below place m (positive m place l); low = let s = square m h in omega arith }
 
-pub divisor : (place m : ℕ) → place < m * m → (m ≡ 0 → ⊥)
-divisor place m l e = let p = positive m place l in omega arith
-
 pub upto-none : (f : ℕ → Bool) → Upto 0 0 f
 upto-none f k h = bit-zero k ∙ sym (ap (λ (b : Bool). b && f k) (le-ltb k 0 (omega arith)))
 

@@ -1,7 +1,7 @@
 -- A relation between m things in the bits of a word: the pair of i and j is bit i * m + j.
 use mathlib.Core.Path.{_≡_}
 use mathlib.Core.Bool.{Bool, _&&_}
-use Prim.Native.Nat.{ℕ, _+_, _*_, _/_, _%_, _^_, _<_, _≤_}
+use Prim.Native.Nat.{ℕ, _+_, _*_, _/_, _%_, _^_, _<_}
 use lib.Dec.{eqb, ltb}
 use Rattle.descriptions.specs.Pictures.{Relation}
 use Rattle.matrices.specs.declared.Pair.{Pair}

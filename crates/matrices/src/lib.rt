@@ -4,7 +4,7 @@ ghost use mathlib.Core.Path.{_≡_};
 ghost use mathlib.Core.Bool.{_&&_, _||_, not, cond};
 ghost use Prim.Native.Nat.{ℕ, _*_, _<_, _≤_};
 ghost use lib.Dec.{eqb};
-ghost use Rattle.descriptions.specs.Pictures.{any, every, compose, reach};
+ghost use Rattle.descriptions.specs.Pictures.{any, every, compose};
 ghost use Rattle.descriptions.specs.Meaning.{transform, combine};
 ghost use Rattle.matrices.specs.Words.{bit, matrix, Shows, PairAt};
 use descriptions::Binary;

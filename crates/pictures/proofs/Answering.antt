@@ -11,12 +11,11 @@ use Rattle.descriptions.specs.declared.whole.Outline.{Outline}
 use Rattle.descriptions.specs.Meaning.{Description}
 use Rattle.descriptions.specs.Bytes.{Reads, depth}
 use Rattle.descriptions.specs.Reading.{Outlines}
-use Rattle.descriptions.specs.First.{No-picture}
 use Rattle.descriptions.proofs.Unique.{one-description}
 use Rattle.descriptions.proofs.Depths.{depth-fine}
 use Rattle.symmetry.proofs.Moves.{names-are-nothing}
 use Rattle.evaluator.specs.declared.packing.Packed.{Packed}
-use Rattle.evaluator.specs.Packing.{size, unpacked, bits, Unpacks}
+use Rattle.evaluator.specs.Packing.{size, unpacked, Unpacks}
 use Rattle.evaluator.proofs.Pictures.{length-unpacked}
 use Rattle.exhaustive.specs.Trying.{FirstUpTo}
 use Rattle.pictures.specs.declared.Found.{Found}
@@ -48,9 +47,6 @@ module _ (s : List ℕ) (n : ℕ) (o : List ℕ) (w : ℕ) (outline : Outline) (
 
   pub short : length s ≤ 512
   short = f .reads .short
-
-  pub few-relations : outline .relations ≤ 8
-  few-relations = let e = f .relations in let h = f .reads .few in omega arith
 
   pub shallow : outline .depth ≤ 4
   shallow = let e = f .depth in let h = depth-fine (f .description .relations) 0 (f .description .sentence) (f .reads .fine) in omega arith

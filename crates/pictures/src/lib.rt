@@ -1,7 +1,7 @@
 // The first picture of a description: of the fewest things, and of those the first in the order of
 // pictures, so that whoever asks gets the same one.
 ghost use mathlib.Core.Path.{_≡_};
-ghost use Prim.Native.Nat.{ℕ, _≤_};
+ghost use Prim.Native.Nat.{_≤_};
 ghost use lib.ListN.{length};
 ghost use Rattle.pictures.specs.Promise.{floorOf, code, FoundPost, CodePost};
 use descriptions::outline_of;

@@ -1,9 +1,6 @@
 use mathlib.Core.Path.{_≡_, sym, _∙_, ap, subst}
-use mathlib.Core.Bool.{Bool}
-use Prim.Native.Nat.{ℕ, suc, _-_, _*_, _<_, _≤_}
+use Prim.Native.Nat.{ℕ, suc, _-_, _*_, _<_}
 use native.Mathlib.Omega.{arith}
-use lib.ListN.{getD}
-use Rattle.matrices.specs.Words.{bit}
 use Rattle.evaluator.specs.Packing.{size, bitAt}
 use Rattle.exhaustive.proofs.Counting.{Carried, carried-none, carried-all, carried-more, raised, bit-there}
 use Rattle.exhaustive.proofs.advance.Needs as need

@@ -1,4 +1,3 @@
-use Prim.Native.Nat.{_<_, _≤_}
 use native.Mathlib.Omega.{arith}
 use Rattle.exhaustive.proofs.Passing.{none-more, first-of-all}
 use Rattle.exhaustive.proofs.first_up_to.Needs as need

@@ -1,6 +1,5 @@
-use mathlib.Core.Path.{_≡_, refl, _∙_}
+use mathlib.Core.Path.{refl, _∙_}
 use native.Mathlib.Omega.{arith}
-use Rattle.matrices.specs.Words.{Shows}
 use Rattle.matrices.proofs.Fill.{upto-none, upto-more, upto-all, at-pair}
 use Rattle.matrices.proofs.Steps.{next-step, last-step, stepped}
 use Rattle.matrices.proofs.closure.Needs as need

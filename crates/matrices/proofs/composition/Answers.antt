@@ -1,5 +1,5 @@
 use Rattle.descriptions.specs.Pictures.{compose}
-use mathlib.Core.Path.{_≡_, refl, sym, _∙_, ap}
+use mathlib.Core.Path.{_∙_}
 use native.Mathlib.Omega.{arith}
 use Rattle.matrices.specs.Words.{matrix}
 use Rattle.matrices.proofs.Fill.{upto-none, upto-more, upto-all, at-pair}

@@ -1,7 +1,7 @@
 use mathlib.Core.Bool.{Bool, _&&_}
 use lib.Dec.{eqb}
 use Rattle.descriptions.specs.Pictures.{any}
-use mathlib.Core.Path.{_≡_, refl, sym, _∙_, ap}
+use mathlib.Core.Path.{_∙_, ap}
 use native.Mathlib.Omega.{arith}
 use Rattle.matrices.specs.Words.{matrix}
 use Rattle.matrices.proofs.Fill.{upto-none, upto-more, upto-all, at-pair}

@@ -1,4 +1,4 @@
-use mathlib.Core.Bool.{Bool, _&&_}
+use mathlib.Core.Bool.{_&&_}
 use lib.Dec.{eqb}
 use Rattle.descriptions.specs.Pictures.{any}
 use Rattle.matrices.specs.Words.{Upto, matrix}

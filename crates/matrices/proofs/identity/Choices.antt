@@ -1,5 +1,5 @@
 use lib.Dec.{eqb}
-use Rattle.matrices.specs.Words.{Upto, matrix}
+use Rattle.matrices.specs.Words.{Upto}
 use Rattle.matrices.proofs.Fill.{placed}
 use Rattle.matrices.proofs.identity.Given as given
 

@@ -1,8 +1,7 @@
 use mathlib.Core.Bool.{_&&_}
 use lib.Dec.{eqb}
-use mathlib.Core.Path.{_≡_, refl, sym, _∙_, ap}
+use mathlib.Core.Path.{refl, _∙_}
 use native.Mathlib.Omega.{arith}
-use Rattle.matrices.specs.Words.{matrix}
 use Rattle.matrices.proofs.Fill.{upto-none, upto-more, upto-all, at-pair}
 use Rattle.matrices.proofs.single.Needs as need
 

@@ -1,6 +1,6 @@
 use mathlib.Core.Bool.{_&&_}
 use lib.Dec.{eqb}
-use Rattle.matrices.specs.Words.{Upto, matrix}
+use Rattle.matrices.specs.Words.{Upto}
 use Rattle.matrices.proofs.Fill.{placed}
 use Rattle.matrices.proofs.single.Given as given
 

@@ -1,4 +1,4 @@
-use mathlib.Core.Path.{_≡_, ap, sym, subst}
+use mathlib.Core.Path.{_≡_, ap, subst}
 use mathlib.Core.Logic.{inl, inr}
 use Prim.Native.Nat.{ℕ, _*_, _<_, _≤_}
 use native.Mathlib.Omega.{arith}
@@ -6,7 +6,7 @@ use lib.ListN.{length}
 use Rattle.pictures.specs.Promise.{floorOf}
 use Rattle.pictures.proofs.Answering.{answer-no-description, answer-few, answer-out-full, answer-none, answer-first, size-within, short, shallow}
 use Rattle.pictures.proofs.find.Needs as need
-use Rattle.pictures.proofs.find.Needs.{After-floor, After-pairs}
+use Rattle.pictures.proofs.find.Needs.{After-pairs}
 
 -- the bits of a picture of the most things
 bits-most : (c : After-pairs) → c .in-Some .outline .relations * c .pairs .result ≡ c .in-Some .outline .relations * (c .args .most * c .args .most)

@@ -1,14 +1,10 @@
-use mathlib.Core.Path.{_≡_, refl, sym, _∙_, ap, subst}
-use mathlib.Core.Bool.{Bool, true, false, not}
+use mathlib.Core.Path.{_≡_, refl, sym, _∙_, ap}
+use mathlib.Core.Bool.{Bool, not}
 use mathlib.Core.List.{_∷_}
-use Prim.Native.Nat.{ℕ, _+_, _<_}
-use native.Mathlib.Omega.{arith}
+use Prim.Native.Nat.{ℕ}
 use borrow.Author.Tests.{not-true, not-false}
 use Rattle.descriptions.specs.declared.heads.SentenceHead.the-variants.{Within, Nonempty, Not, Both, ForEvery}
-use Rattle.descriptions.specs.Pictures.{every}
 use Rattle.descriptions.specs.Meaning.{holds}
-use Rattle.descriptions.specs.Bytes.{writeS, fineS}
-use Rattle.descriptions.specs.Reading.{Absent}
 use Rattle.descriptions.proofs.Quantifiers.{every-at, every-more}
 use Rattle.descriptions.proofs.Unique.{uniqueS}
 use Rattle.descriptions.proofs.Parts.{operator-stands, operator-absent, pair-stands, pair-absent, pair-half}

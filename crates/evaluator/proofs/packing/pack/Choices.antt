@@ -1,4 +1,3 @@
-use Prim.Native.Nat.{_*_}
 use Rattle.evaluator.proofs.Pictures.{Reading}
 use Rattle.evaluator.proofs.packing.pack.Given as given
 

@@ -1,5 +1,5 @@
-use mathlib.Core.Path.{_≡_, sym, subst}
-use Prim.Native.Nat.{ℕ, _*_, _/_, _%_}
+use mathlib.Core.Path.{sym, subst}
+use Prim.Native.Nat.{ℕ, _/_, _%_}
 use Rattle.evaluator.specs.Packing.{SpotAt}
 use Rattle.evaluator.proofs.Pictures.{spot-is}
 use Rattle.evaluator.proofs.packing.spot_at.Needs as need

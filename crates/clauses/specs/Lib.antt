@@ -1,0 +1,3 @@
+-- Literals, clauses and assignments; clauses in lent memory.
+pub mod Formulas
+pub mod Stores

@@ -38,6 +38,21 @@ pub fn is_false(values: &[u32], literal: u32) -> bool
 }
 
 impl Trail<'_> {
+    // Whether a literal is true, or false.
+    pub fn holds(&self, literal: u32) -> bool
+        requires { ⌜ literal / 2 < length (now (now self .values)) ⌝ }
+        ensures { λ r. ⌜ r ≡ eqb (getD (now (now (self .entry) .values)) (literal / 2) 0) (1 + literal % 2) ⌝ }
+    {
+        is_true(self.values, literal)
+    }
+
+    pub fn fails(&self, literal: u32) -> bool
+        requires { ⌜ literal / 2 < length (now (now self .values)) ⌝ }
+        ensures { λ r. ⌜ r ≡ eqb (getD (now (now (self .entry) .values)) (literal / 2) 0) (2 - literal % 2) ⌝ }
+    {
+        is_false(self.values, literal)
+    }
+
     // One literal more.
     fn put(&mut self, literal: u32, mark: u32)
         requires known { ⌜ literal / 2 < length (now (now self .values)) ⌝ }
@@ -55,13 +70,13 @@ impl Trail<'_> {
     }
 
     // A literal that is true in every model that has the decisions.
-    pub fn imply(&mut self, problem: &Store, literal: u32)
-        requires good { ⌜ Good (formulaOf (now problem)) (length (now (now self .values))) (now self) ⌝ }
-        requires known { ⌜ literal / 2 < length (now (now self .values)) ⌝ }
+    pub fn imply(&mut self, problem: &Store, variables: usize, literal: u32)
+        requires good { ⌜ Good (formulaOf (now problem)) variables (now self) ⌝ }
+        requires known { ⌜ literal / 2 < variables ⌝ }
         requires free { ⌜ getD (now (now self .values)) (literal / 2) 0 ≡ 0 ⌝ }
         requires implied { ⌜ ((α : Assignment) → Models (formulaOf (now problem)) α → Decided (now (now self .literals)) (now (now self .marks)) α (now self .len) → value α literal ≡ true) ⌝ }
-        ensures good { λ _. ⌜ Good (formulaOf (now (problem .entry))) (length (now (now (self .entry) .values))) (now (self .exit)) ⌝ }
-        ensures less { λ _. ⌜ ((budget : ℕ) → rank (length (now (now (self .entry) .values))) budget (now (self .exit)) < rank (length (now (now (self .entry) .values))) budget (now (self .entry))) ⌝ }
+        ensures good { λ _. ⌜ Good (formulaOf (now (problem .entry))) variables (now (self .exit)) ⌝ }
+        ensures less { λ _. ⌜ ((budget : ℕ) → rank variables budget (now (self .exit)) < rank variables budget (now (self .entry))) ⌝ }
         ensures len { λ _. ⌜ now (self .exit) .len ≡ now (self .entry) .len + 1 ⌝ }
         ensures values { λ _. ⌜ now (now (self .exit) .values) ≡ set (now (now (self .entry) .values)) (literal / 2) (1 + literal % 2) ⌝ }
     {
@@ -69,22 +84,22 @@ impl Trail<'_> {
     }
 
     // A literal to try.
-    pub fn decide(&mut self, problem: &Store, literal: u32)
-        requires good { ⌜ Good (formulaOf (now problem)) (length (now (now self .values))) (now self) ⌝ }
-        requires known { ⌜ literal / 2 < length (now (now self .values)) ⌝ }
+    pub fn decide(&mut self, problem: &Store, variables: usize, literal: u32)
+        requires good { ⌜ Good (formulaOf (now problem)) variables (now self) ⌝ }
+        requires known { ⌜ literal / 2 < variables ⌝ }
         requires free { ⌜ getD (now (now self .values)) (literal / 2) 0 ≡ 0 ⌝ }
-        ensures good { λ _. ⌜ Good (formulaOf (now (problem .entry))) (length (now (now (self .entry) .values))) (now (self .exit)) ⌝ }
-        ensures less { λ _. ⌜ ((budget : ℕ) → rank (length (now (now (self .entry) .values))) budget (now (self .exit)) < rank (length (now (now (self .entry) .values))) budget (now (self .entry))) ⌝ }
+        ensures good { λ _. ⌜ Good (formulaOf (now (problem .entry))) variables (now (self .exit)) ⌝ }
+        ensures less { λ _. ⌜ ((budget : ℕ) → rank variables budget (now (self .exit)) < rank variables budget (now (self .entry))) ⌝ }
         ensures len { λ _. ⌜ now (self .exit) .len ≡ now (self .entry) .len + 1 ⌝ }
     {
         self.put(literal, 1);
     }
 
     // Goes back to the first so many literals.
-    pub fn pop_to(&mut self, problem: &Store, keep: usize)
-        requires good { ⌜ Good (formulaOf (now problem)) (length (now (now self .values))) (now self) ⌝ }
+    pub fn pop_to(&mut self, problem: &Store, variables: usize, keep: usize)
+        requires good { ⌜ Good (formulaOf (now problem)) variables (now self) ⌝ }
         requires low { ⌜ keep ≤ now self .len ⌝ }
-        ensures good { λ _. ⌜ Good (formulaOf (now (problem .entry))) (length (now (now (self .entry) .values))) (now (self .exit)) ⌝ }
+        ensures good { λ _. ⌜ Good (formulaOf (now (problem .entry))) variables (now (self .exit)) ⌝ }
         ensures literals { λ _. ⌜ now (now (self .exit) .literals) ≡ now (now (self .entry) .literals) ⌝ }
         ensures marks { λ _. ⌜ now (now (self .exit) .marks) ≡ now (now (self .entry) .marks) ⌝ }
         ensures len { λ _. ⌜ now (self .exit) .len ≡ keep ⌝ }
@@ -99,27 +114,27 @@ impl Trail<'_> {
 
     // Goes back to a decision, and puts in its place the negation of a literal at or above it, which
     // is true in every model that has the decisions before.
-    pub fn jump(&mut self, problem: &Store, decision: usize, place: usize)
-        requires good { ⌜ Good (formulaOf (now problem)) (length (now (now self .values))) (now self) ⌝ }
+    pub fn jump(&mut self, problem: &Store, variables: usize, decision: usize, place: usize)
+        requires good { ⌜ Good (formulaOf (now problem)) variables (now self) ⌝ }
         requires order { ⌜ decision ≤ place ⌝ }
         requires within { ⌜ place < now self .len ⌝ }
         requires decided { ⌜ getD (now (now self .marks)) decision 0 ≡ 1 ⌝ }
         requires forced { ⌜ ((α : Assignment) → Models (formulaOf (now problem)) α → Decided (now (now self .literals)) (now (now self .marks)) α decision → value α (negation (getD (now (now self .literals)) place 0)) ≡ true) ⌝ }
-        ensures good { λ _. ⌜ Good (formulaOf (now (problem .entry))) (length (now (now (self .entry) .values))) (now (self .exit)) ⌝ }
-        ensures less { λ _. ⌜ ((budget : ℕ) → rank (length (now (now (self .entry) .values))) budget (now (self .exit)) < rank (length (now (now (self .entry) .values))) budget (now (self .entry))) ⌝ }
+        ensures good { λ _. ⌜ Good (formulaOf (now (problem .entry))) variables (now (self .exit)) ⌝ }
+        ensures less { λ _. ⌜ ((budget : ℕ) → rank variables budget (now (self .exit)) < rank variables budget (now (self .entry))) ⌝ }
         ensures len { λ _. ⌜ now (self .exit) .len ≡ decision + 1 ⌝ }
     {
         let literal = negated(self.literals[place]);
-        self.pop_to(problem, decision);
+        self.pop_to(problem, variables, decision);
         self.put(literal, 0);
     }
 
     // Goes back to the last decision and turns it round; false where there is none, and so no model.
-    pub fn flip(&mut self, problem: &Store) -> bool
-        requires good { ⌜ Good (formulaOf (now problem)) (length (now (now self .values))) (now self) ⌝ }
+    pub fn flip(&mut self, problem: &Store, variables: usize) -> bool
+        requires good { ⌜ Good (formulaOf (now problem)) variables (now self) ⌝ }
         requires jammed { ⌜ Jammed (formulaOf (now problem)) (now self) ⌝ }
-        ensures good { λ r. ⌜ (r ≡ true → Good (formulaOf (now (problem .entry))) (length (now (now (self .entry) .values))) (now (self .exit))) ⌝ }
-        ensures less { λ r. ⌜ (r ≡ true → (budget : ℕ) → rank (length (now (now (self .entry) .values))) budget (now (self .exit)) < rank (length (now (now (self .entry) .values))) budget (now (self .entry))) ⌝ }
+        ensures good { λ r. ⌜ (r ≡ true → Good (formulaOf (now (problem .entry))) variables (now (self .exit))) ⌝ }
+        ensures less { λ r. ⌜ (r ≡ true → (budget : ℕ) → rank variables budget (now (self .exit)) < rank variables budget (now (self .entry))) ⌝ }
         ensures none { λ r. ⌜ (r ≡ false → (α : Assignment) → Models (formulaOf (now (problem .entry))) α → ⊥) ⌝ }
     {
         while self.len > 0 {

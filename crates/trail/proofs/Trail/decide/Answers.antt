@@ -9,7 +9,7 @@ pub put-requires : need.put-requires
 put-requires c κs =
     let i = c .pre .good in
     let r = room-for-one _ _ _ _ _ _ _ _ _ _ 0 i (c .pre .free) (c .pre .known) refl refl refl in
-    record { known = c .pre .known; literals-room = omega (arith, i .literals-room); marks-room = omega (arith, i .marks-room) }
+    record { known = omega (arith, c .pre .known, i .size); literals-room = omega (arith, i .literals-room); marks-room = omega (arith, i .marks-room) }
 
 pub returns : need.returns
 returns c =

@@ -26,7 +26,7 @@ module _ (c : After-negated) where
   in-values : getD (c .loop-self .self .literals .now) place 0 / 2 < length (c .loop-self .self .values .now)
   in-values = last-known _ _ _ _ _ _ _ one-more (c .loop-self .inv .good)
 
-  known : c .negated .result / 2 < length (c .args .self .now .values .now)
+  known : c .negated .result / 2 < c .args .variables
   known = omega (arith, half, in-values, c .loop-self .inv .good .size)
 
   free : getD (set (c .loop-self .self .values .now) (getD (c .loop-self .self .literals .now) place 0 / 2) 0) (c .negated .result / 2) 0 ≡ 0

@@ -1,13 +1,12 @@
 use mathlib.Core.Path.{_≡_}
 use Prim.Native.Nat.{_≤_}
-use lib.ListN.{length}
 use Rattle.clauses.specs.Stores.{formulaOf}
 use Rattle.trail.specs.Trails.{Good, Jammed}
 use Rattle.trail.proofs.Trail.flip.Given as given
 
 abbrev pub Inv-loop-self : given.InvT-loop-self
 Inv-loop-self l = record {
-  good : Good (formulaOf (l .problem)) (length (l .entry .self .values .now)) (l .self);
+  good : Good (formulaOf (l .problem)) (l .variables) (l .self);
   jammed : Jammed (formulaOf (l .problem)) (l .self);
   literals : l .self .literals .now ≡ l .entry .self .literals .now;
   marks : l .self .marks .now ≡ l .entry .self .marks .now;

@@ -15,13 +15,13 @@ module _ (c : After-pop-to) where
   half : c .negated-literal .result / 2 ≡ getD (c .args .self .now .literals .now) (c .args .place) 0 / 2
   half = ap (λ (x : ℕ). x / 2) (c .negated-literal .ensures) ∙ negation-half (getD (c .args .self .now .literals .now) (c .args .place) 0)
 
-  known : c .negated-literal .result / 2 < length (c .args .self .now .values .now)
-  known = omega (arith, half, c .pre .good .known (c .args .place) (c .pre .within), c .pre .good .size)
+  known : c .negated-literal .result / 2 < c .args .variables
+  known = omega (arith, half, c .pre .good .known (c .args .place) (c .pre .within))
 
   free : getD (c .pop-to .last .self .values .now) (c .negated-literal .result / 2) 0 ≡ 0
   free = ap (λ (x : ℕ). getD (c .pop-to .last .self .values .now) x 0) half ∙ c .pop-to .ensures .freed (c .args .place) (c .pre .order) (c .pre .within)
 
-  room : c .pop-to .last .self .len < length (c .args .self .now .values .now)
+  room : c .pop-to .last .self .len < c .args .variables
   room = room-for-one _ _ _ _ _ _ _ _ _ _ 0 (c .pop-to .ensures .good) free known refl refl refl
 
 pub put-requires : need.put-requires

@@ -1,13 +1,13 @@
 use mathlib.Core.Path.{_≡_}
 use Prim.Native.Nat.{ℕ, _-_, _/_, _≤_, _<_}
-use lib.ListN.{length, getD}
+use lib.ListN.{getD}
 use Rattle.clauses.specs.Stores.{formulaOf}
 use Rattle.trail.specs.Trails.{Good}
 use Rattle.trail.proofs.Trail.pop_to.Given as given
 
 abbrev pub Inv-loop-self : given.InvT-loop-self
 Inv-loop-self l = record {
-  good : Good (formulaOf (l .problem)) (length (l .entry .self .values .now)) (l .self);
+  good : Good (formulaOf (l .problem)) (l .variables) (l .self);
   literals : l .self .literals .now ≡ l .entry .self .literals .now;
   marks : l .self .marks .now ≡ l .entry .self .marks .now;
   low : l .keep ≤ l .self .len;

@@ -1,0 +1,2 @@
+-- what a look at a clause says of models
+pub mod Seeing

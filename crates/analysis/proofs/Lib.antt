@@ -1,0 +1,2 @@
+-- marks come and go
+pub mod Marks

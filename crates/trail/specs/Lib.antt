@@ -1,2 +1,2 @@
--- The trail of a search: what it says of models, and why a search ends.
+-- The trail: what it says of models, and why what builds it ends.
 pub mod Trails

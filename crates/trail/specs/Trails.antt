@@ -45,7 +45,7 @@ pub record Held (f : List (List ℕ)) (v : ℕ) (values literals marks : List �
   pub stands : (l : ℕ) → Is-true values l → On-trail literals n l
   pub implied : (α : Assignment) → Models f α → (p : ℕ) → p < n → Decided literals marks α (p + 1) → value α (getD literals p 0) ≡ true
 
--- the trail as a number in base 3, its first place the highest: implied 0, decided 1, not there 2; above all places how often the search may yet begin anew
+-- the trail as a number in base 3, its first place the highest: implied 0, decided 1, not there 2; above all places how often it may yet be begun anew
 unfoldable pub digit : List ℕ → ℕ → ℕ → ℕ
 digit marks n p = cond (ltb p n) (cond (eqb (getD marks p 0) 1) 1 0) 2
 

@@ -1,4 +1,4 @@
-// The trail of a search over clauses. It says what holds in every model that has the decisions, and
+// The trail over clauses. It says what holds in every model that has the decisions, and
 // it is what falls: no step but one from a counted budget makes it larger as a number in base 3.
 ghost use mathlib.Core.Path.{_≡_};
 ghost use mathlib.Core.Bool.{true, false};

@@ -1,0 +1,2 @@
+-- clauses that follow
+pub mod Following

@@ -1,0 +1,2 @@
+-- What a clause that follows does to the trail.
+pub mod Turning

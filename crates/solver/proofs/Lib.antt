@@ -1,0 +1,2 @@
+-- values and models
+pub mod Checks

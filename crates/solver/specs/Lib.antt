@@ -1,0 +1,2 @@
+-- Values that are a model.
+pub mod Values

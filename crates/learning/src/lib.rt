@@ -72,7 +72,7 @@ fn forces(
 }
 
 // The lowest decision above the literals of a clause but one; the trail's length where there is none.
-fn decision_above(
+pub fn decision_above(
     trail: &Trail,
     variables: usize,
     causes: &Causes,
@@ -102,14 +102,16 @@ fn decision_above(
     trail.len
 }
 
-// From a clause that follows, under which no model has the decisions: goes back to where it leaves
-// the negation of the literal at a place, which is then implied; or turns the last decision round.
+// From a clause that follows, where no model has the decisions: goes back to a decision, if the clause
+// leaves there but the negation of the literal at a place, which is then implied; or turns the last
+// decision round.
 pub fn go_back(
     trail: &mut Trail,
     variables: usize,
     causes: &Causes,
     problem: &Store,
     clause: &[u32],
+    decision: usize,
     place: usize,
 ) -> Turn
     requires good { ⌜ Good (formulaOf (now problem)) variables (now trail) ⌝ }
@@ -119,13 +121,9 @@ pub fn go_back(
     requires follows { ⌜ Follows (formulaOf (now problem)) (now clause) ⌝ }
     ensures { λ r. ⌜ TurnSays (formulaOf (now (problem .entry))) variables (now (trail .entry)) (now (trail .exit)) r ⌝ }
 {
-    if place < trail.len {
+    if decision <= place && place < trail.len && trail.marks[decision] == 1 {
         let literal = negated(trail.literals[place]);
-        let decision = decision_above(trail, variables, causes, problem, clause, literal);
-        if decision <= place
-            && trail.marks[decision] == 1
-            && forces(trail, variables, causes, problem, clause, decision, literal)
-        {
+        if forces(trail, variables, causes, problem, clause, decision, literal) {
             trail.jump(problem, variables, decision, place);
             return Turn::Jump;
         }

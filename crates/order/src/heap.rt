@@ -20,7 +20,7 @@ const PART: u32 = 19;
 #[derive(Drop)]
 pub struct Order<'a> {
     // The activity of each variable.
-    scores: &'a mut [u32],
+    pub scores: &'a mut [u32],
     // Variables, of which the first are in the heap, as many as the count says.
     heap: &'a mut [u32],
     // For each variable its place in the heap plus one, and 0 where it is not there.

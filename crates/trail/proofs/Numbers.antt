@@ -62,3 +62,9 @@ module _ (budget : ℕ) (marks marks′ : List ℕ) (n mark : ℕ) (change : mar
       (let a : digit marks′ n′ n ≡ 0 = digit-below marks′ n′ n (omega arith) ∙ ap decision (ap (λ (xs : List ℕ). getD xs n 0) change ∙ getD-set-same marks n mark 0 in-marks ∙ zero-mark) in
       let b : digit marks len n ≡ 1 = digit-below marks len n l ∙ ap decision one in
       omega arith) v h
+
+-- begun anew, at the cost of the budget
+pub falls-by-budget : (budget : ℕ) (marks marks′ : List ℕ) (n n′ k : ℕ) → number budget marks′ n′ k < number (budget + 1) marks n k
+unfolding number
+falls-by-budget budget marks marks′ n n′ zero = omega arith
+falls-by-budget budget marks marks′ n n′ (suc k) = let r = falls-by-budget budget marks marks′ n n′ k in let s = digit-small marks′ n′ k in omega arith

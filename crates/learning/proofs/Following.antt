@@ -44,9 +44,9 @@ sound-more f v c s t sound follows added =
 sound-same : (f : List (List ℕ)) (v : ℕ) (s t : Store) → SoundS f v s → Same s t → SoundS f v t
 sound-same f v s t sound same =
     subst (λ (xs : List ℕ). Sound f v xs (t .words .now) (t .count) (t .used)) (sym (same .spans)) (
-      subst (λ (xs : List ℕ). Sound f v (s .spans .now) xs (t .count) (t .used)) (sym (same .words)) (
-        subst (λ (n : ℕ). Sound f v (s .spans .now) (s .words .now) n (t .used)) (sym (same .count)) (
-          subst (λ (n : ℕ). Sound f v (s .spans .now) (s .words .now) (s .count) n) (sym (same .used)) sound)))
+    subst (λ (xs : List ℕ). Sound f v (s .spans .now) xs (t .count) (t .used)) (sym (same .words)) (
+    subst (λ (n : ℕ). Sound f v (s .spans .now) (s .words .now) n (t .used)) (sym (same .count)) (
+    subst (λ (n : ℕ). Sound f v (s .spans .now) (s .words .now) (s .count) n) (sym (same .used)) sound)))
 
 -- whether there was room or not
 pub sound-kept : (f : List (List ℕ)) (v : ℕ) (c : List ℕ) (s t : Store) (b : Bool) → SoundS f v s → Follows f c → AddedIf v c s t b → SoundS f v t × (b ≡ true → t .count ≡ s .count + 1)

@@ -26,13 +26,7 @@ pub enum Turn {
 }
 
 // Whether the negation of a literal stands before a place.
-fn is_refuted(
-    trail: &Trail,
-    variables: usize,
-    causes: &Causes,
-    before: usize,
-    literal: u32,
-) -> bool
+fn is_refuted(trail: &Trail, variables: usize, causes: &Causes, before: usize, literal: u32) -> bool
     requires causes { ⌜ Caused variables (now causes) ⌝ }
     requires known { ⌜ literal / 2 < variables ⌝ }
     requires within { ⌜ before ≤ length (now (now trail .literals)) ⌝ }

@@ -231,7 +231,7 @@ pub enum Outcome {
 
 // Looks at the clause of a node, if the other watched literal is not true, and has that one implied
 // where nothing else is left.
-fn examine(
+pub fn examine(
     trail: &mut Trail,
     variables: usize,
     causes: &mut Causes,

@@ -7,11 +7,11 @@ ghost use Prim.Native.Nat.{ℕ, _/_, _<_, _≤_};
 ghost use lib.ListN.{length};
 ghost use Rattle.clauses.specs.Formulas.{Assignment, Models};
 ghost use Rattle.clauses.specs.Stores.{formulaOf, StoredS, SoundS};
-ghost use Rattle.trail.specs.Trails.{Good, Jammed, rank};
+ghost use Rattle.trail.specs.Trails.{Good, Jammed};
 ghost use Rattle.propagation.specs.Looking.{Caused};
 ghost use Rattle.analysis.specs.Marking.{NotedA, Rooted};
 ghost use Rattle.order.specs.Orders.{Ordered};
-ghost use Rattle.learning.specs.Turning.{Known, Follows};
+ghost use Rattle.learning.specs.Turning.{Known, Follows, Fallen};
 use analysis::Analysis;
 use clauses::Store;
 use clauses::negated;
@@ -40,13 +40,7 @@ pub fn first_decision(trail: &Trail) -> usize
 
 // Gives the variables from a place of the trail on back to the order, and notes which of their values
 // is to be tried first.
-pub fn release(
-    trail: &Trail,
-    order: &mut Order,
-    phases: &mut [u32],
-    decided: usize,
-    from: usize,
-)
+pub fn release(trail: &Trail, order: &mut Order, phases: &mut [u32], decided: usize, from: usize)
     requires long { ⌜ now trail .len ≤ length (now (now trail .literals)) ⌝ }
     requires ordered { ⌜ Ordered (length (now (now order .scores))) (now order) ⌝ }
     ensures ordered { λ _. ⌜ Ordered (length (now (now (order .exit) .scores))) (now (order .exit)) ⌝ }
@@ -150,7 +144,154 @@ pub fn settle(
     let level = level_before(trail, variables, causes, problem);
     if trail.len > 0 {
         let last = trail.len - 1;
-        causes.note((trail.literals[last] / 2) as usize, reason, level, last as u32);
+        causes.note(
+            (trail.literals[last] / 2) as usize,
+            reason,
+            level,
+            last as u32,
+        );
     }
     level
+}
+
+// Turns the last decision round; false where there is none, and so no model.
+pub fn turn_round(trail: &mut Trail, variables: usize, causes: &mut Causes, problem: &Store) -> bool
+    requires good { ⌜ Good (formulaOf (now problem)) variables (now trail) ⌝ }
+    requires jammed { ⌜ Jammed (formulaOf (now problem)) (now trail) ⌝ }
+    requires causes { ⌜ Caused variables (now causes) ⌝ }
+    requires few { ⌜ variables < 2147483647 ⌝ }
+    ensures fallen { λ r. ⌜ (r ≡ true → Fallen (formulaOf (now (problem .entry))) variables (now (trail .entry)) (now (trail .exit))) ⌝ }
+    ensures none { λ r. ⌜ (r ≡ false → (α : Assignment) → Models (formulaOf (now (problem .entry))) α → ⊥) ⌝ }
+    ensures causes { λ _. ⌜ Caused variables (now (causes .exit)) ⌝ }
+{
+    if !trail.flip(problem, variables) {
+        return false;
+    }
+    settle(trail, variables, causes, problem, 0);
+    true
+}
+
+// Goes back by a clause that follows, and keeps it; false where there is no model.
+fn go_on(
+    trail: &mut Trail,
+    variables: usize,
+    causes: &mut Causes,
+    watches: &mut Watches,
+    order: &mut Order,
+    phases: &mut [u32],
+    problem: &Store,
+    learned: &mut Store,
+    base: usize,
+    decided: usize,
+    clause: &[u32],
+    place: usize,
+) -> bool
+    requires good { ⌜ Good (formulaOf (now problem)) variables (now trail) ⌝ }
+    requires jammed { ⌜ Jammed (formulaOf (now problem)) (now trail) ⌝ }
+    requires learned { ⌜ SoundS (formulaOf (now problem)) variables (now learned) ⌝ }
+    requires causes { ⌜ Caused variables (now causes) ⌝ }
+    requires ordered { ⌜ Ordered (length (now (now order .scores))) (now order) ⌝ }
+    requires known { ⌜ Known variables (now clause) ⌝ }
+    requires follows { ⌜ Follows (formulaOf (now problem)) (now clause) ⌝ }
+    requires place { ⌜ place < now trail .len ⌝ }
+    requires few { ⌜ variables < 2147483647 ⌝ }
+    ensures fallen { λ r. ⌜ (r ≡ true → Fallen (formulaOf (now (problem .entry))) variables (now (trail .entry)) (now (trail .exit))) ⌝ }
+    ensures none { λ r. ⌜ (r ≡ false → (α : Assignment) → Models (formulaOf (now (problem .entry))) α → ⊥) ⌝ }
+    ensures learned { λ _. ⌜ SoundS (formulaOf (now (problem .entry))) variables (now (learned .exit)) ⌝ }
+    ensures causes { λ _. ⌜ Caused variables (now (causes .exit)) ⌝ }
+    ensures ordered { λ _. ⌜ Ordered (length (now (now (order .exit) .scores))) (now (order .exit)) ⌝ }
+{
+    let literal = negated(trail.literals[place]);
+    let other = highest(variables, causes, clause, literal);
+    let decision = decision_above(trail, variables, causes, problem, clause, literal);
+    release(trail, order, phases, decided, decision);
+    match go_back(trail, variables, causes, problem, clause, decision, place) {
+        Turn::End => false,
+        Turn::Flip => {
+            settle(trail, variables, causes, problem, 0);
+            true
+        }
+        Turn::Jump => {
+            let reason = watch_kept(
+                variables,
+                watches,
+                problem,
+                learned,
+                base,
+                clause,
+                literal,
+                other,
+            );
+            settle(trail, variables, causes, problem, reason);
+            true
+        }
+    }
+}
+
+// Learns from a clause that is false, given by its number; false where there is no model.
+pub fn learn(
+    trail: &mut Trail,
+    variables: usize,
+    causes: &mut Causes,
+    watches: &mut Watches,
+    analysis: &mut Analysis,
+    order: &mut Order,
+    phases: &mut [u32],
+    problem: &Store,
+    learned: &mut Store,
+    base: usize,
+    decided: usize,
+    level: u32,
+    conflict: u32,
+) -> bool
+    requires good { ⌜ Good (formulaOf (now problem)) variables (now trail) ⌝ }
+    requires jammed { ⌜ Jammed (formulaOf (now problem)) (now trail) ⌝ }
+    requires stored { ⌜ StoredS variables (now problem) ⌝ }
+    requires learned { ⌜ SoundS (formulaOf (now problem)) variables (now learned) ⌝ }
+    requires base { ⌜ base ≤ now problem .count ⌝ }
+    requires causes { ⌜ Caused variables (now causes) ⌝ }
+    requires noted { ⌜ NotedA variables (now analysis) ⌝ }
+    requires ordered { ⌜ Ordered (length (now (now order .scores))) (now order) ⌝ }
+    requires few { ⌜ variables < 2147483647 ⌝ }
+    ensures fallen { λ r. ⌜ (r ≡ true → Fallen (formulaOf (now (problem .entry))) variables (now (trail .entry)) (now (trail .exit))) ⌝ }
+    ensures none { λ r. ⌜ (r ≡ false → (α : Assignment) → Models (formulaOf (now (problem .entry))) α → ⊥) ⌝ }
+    ensures learned { λ _. ⌜ SoundS (formulaOf (now (problem .entry))) variables (now (learned .exit)) ⌝ }
+    ensures causes { λ _. ⌜ Caused variables (now (causes .exit)) ⌝ }
+    ensures noted { λ _. ⌜ NotedA variables (now (analysis .exit)) ⌝ }
+    ensures ordered { λ _. ⌜ Ordered (length (now (now (order .exit) .scores))) (now (order .exit)) ⌝ }
+{
+    analysis.clear(variables);
+    let root = first_decision(trail);
+    let Some(place) = analysis.analyze(
+        trail,
+        variables,
+        causes,
+        problem,
+        learned,
+        base,
+        root,
+        level,
+        conflict,
+    ) else {
+        return turn_round(trail, variables, causes, problem);
+    };
+    bump_met(analysis, order);
+    if !analysis.collect(trail, variables, problem) {
+        return turn_round(trail, variables, causes, problem);
+    }
+    let size = analysis.size;
+    go_on(
+        trail,
+        variables,
+        causes,
+        watches,
+        order,
+        phases,
+        problem,
+        learned,
+        base,
+        decided,
+        &analysis.buffer[0..size],
+        place,
+    )
 }

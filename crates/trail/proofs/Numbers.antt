@@ -64,7 +64,7 @@ module _ (budget : ℕ) (marks marks′ : List ℕ) (n mark : ℕ) (change : mar
       omega arith) v h
 
 -- begun anew, at the cost of the budget
-pub falls-by-budget : (budget : ℕ) (marks marks′ : List ℕ) (n n′ k : ℕ) → number budget marks′ n′ k < number (budget + 1) marks n k
+pub falls-by-budget : (budget budget′ : ℕ) (marks marks′ : List ℕ) (n n′ k : ℕ) → budget′ < budget → number budget′ marks′ n′ k < number budget marks n k
 unfolding number
-falls-by-budget budget marks marks′ n n′ zero = omega arith
-falls-by-budget budget marks marks′ n n′ (suc k) = let r = falls-by-budget budget marks marks′ n n′ k in let s = digit-small marks′ n′ k in omega arith
+falls-by-budget budget budget′ marks marks′ n n′ zero h = h
+falls-by-budget budget budget′ marks marks′ n n′ (suc k) h = let r = falls-by-budget budget budget′ marks marks′ n n′ k h in let s = digit-small marks′ n′ k in omega arith

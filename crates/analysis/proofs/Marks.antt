@@ -1,9 +1,9 @@
 -- Marks come and go, and every model differs at a marked variable.
-use mathlib.Core.Path.{_≡_, refl, sym, _∙_, ap, subst}
-use mathlib.Core.Bool.{Bool, true, false, not, cond}
-use mathlib.Core.Logic.{_⊎_, inl, inr, _≢_}
+use mathlib.Core.Path.{_≡_, sym, _∙_, ap, subst}
+use mathlib.Core.Bool.{Bool, true, false, cond}
+use mathlib.Core.Logic.{_⊎_, inl, inr}
 use mathlib.Core.List.{List}
-use Prim.Native.Nat.{ℕ, _+_, _-_, _*_, _/_, _%_, _<_, _≤_}
+use Prim.Native.Nat.{ℕ, _+_, _*_, _/_, _%_, _<_, _≤_}
 use native.Mathlib.Omega.{arith}
 use lib.Dec.{eqb}
 use lib.ListN.{length, getD, set}
@@ -12,7 +12,7 @@ use Rattle.std.proofs.shelf.Tests.{cases-eq, both-ways, not-true, eq-eqb, ne-eq
 use Rattle.clauses.specs.Formulas.{Assignment, value, negation, Models}
 use Rattle.clauses.specs.Stores.{from, to, Some-true, Sound}
 use Rattle.clauses.proofs.Literals.{value-negation}
-use Rattle.trail.specs.Trails.{Is-true, Is-false, On-trail, Decided, Held}
+use Rattle.trail.specs.Trails.{Is-true, Is-false, On-trail, Held}
 use Rattle.analysis.specs.Marking.{literalOf, Noted, Grown, Never, Differs, Apart, Taken, All-taken, Elsewhere, Absorbed, Rooted}
 
 -- a literal that stands false before any decision

@@ -7,7 +7,6 @@ use Prim.Native.Nat.{ℕ, _+_, _*_, _/_, _<_, _≤_}
 use lib.Dec.{eqb}
 use lib.ListN.{length, getD}
 use Rattle.clauses.specs.Formulas.{Assignment, value, Models}
-use Rattle.clauses.specs.Stores.{Some-true}
 use Rattle.trail.specs.Trails.{Is-false, On-trail}
 use Rattle.analysis.specs.declared.Analysis.{Analysis}
 

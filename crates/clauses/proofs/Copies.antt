@@ -2,7 +2,7 @@
 use mathlib.Core.Path.{_≡_, refl, sym, _∙_, ap, subst}
 use mathlib.Core.Logic.{_≢_, _⊎_, inl, inr}
 use mathlib.Core.List.{List, [], _∷_, _++_, map}
-use Prim.Native.Nat.{ℕ, _+_, _-_, _*_, _/_, _^_, _<_, _≤_, min}
+use Prim.Native.Nat.{ℕ, _+_, _-_, _*_, _/_, _^_, _<_, _≤_}
 use native.Mathlib.Omega.{arith}
 use borrow.Author.Count.{below-more}
 use lib.ListN.{length, getD, set, take, drop}
@@ -10,8 +10,7 @@ use Rattle.std.specs.Iters.{counting}
 use Rattle.std.proofs.shelf.Counted.{fill-by-all, length-map-counting, getD-map-counting, map-counting-more}
 use Rattle.std.proofs.shelf.Lists.{ext-getD, length-take, length-drop, length-set, getD-take, getD-drop, getD-set-same, getD-set-other}
 use Rattle.std.proofs.shelf.Tests.{cases-lt}
-use Rattle.clauses.specs.declared.store.Store.{Store}
-use Rattle.clauses.specs.Stores.{from, to, clause, formula, formulaOf, Stored, StoredS, Fits, Added}
+use Rattle.clauses.specs.Stores.{from, to, clause, formula, Stored}
 
 -- the first so many literals of a clause have been copied to a place
 pub record Copied (c : List ℕ) (begin : ℕ) (w w′ : List ℕ) (place : ℕ) : Type 0 where

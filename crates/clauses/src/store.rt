@@ -2,7 +2,7 @@
 // its literals begin and where they end.
 ghost use mathlib.Core.Path.{_≡_};
 ghost use mathlib.Core.Bool.{true, false};
-ghost use Prim.Native.Nat.{ℕ, _+_, _*_, _/_, _<_, _≤_};
+ghost use Prim.Native.Nat.{ℕ, _+_, _*_, _/_, _<_};
 ghost use lib.ListN.{length, getD};
 ghost use denote.Ref.{name, now};
 ghost use Rattle.clauses.specs.Stores.{from, to, StoredS, AddedIf};

@@ -1,7 +1,7 @@
 -- Clauses that follow: what one forces, and one more in a store.
 use mathlib.Core.Path.{_≡_, refl, sym, _∙_, ap, subst}
 use mathlib.Core.Bool.{Bool, true, false}
-use mathlib.Core.Logic.{_⊎_, inl, inr}
+use mathlib.Core.Logic.{inl, inr}
 use mathlib.Core.List.{List, [], _∷_, _++_}
 use Prim.Native.Nat.{ℕ, zero, suc, _+_, _<_, _≤_}
 use native.Mathlib.Omega.{arith}
@@ -11,7 +11,7 @@ use Rattle.clauses.specs.declared.store.Store.{Store}
 use Rattle.clauses.specs.Formulas.{Assignment, value, negation, Satisfies, Models}
 use Rattle.clauses.specs.Stores.{formulaOf, Sound, SoundS, Added, AddedIf, Same}
 use Rattle.clauses.proofs.Literals.{value-negation, own-sound, all-true}
-use Rattle.trail.specs.Trails.{On-trail, Decided, Held}
+use Rattle.trail.specs.Trails.{Held}
 use Rattle.learning.specs.Turning.{Follows, Against, Forced}
 
 -- a literal whose negation stands before a place is false in every model with the decisions before

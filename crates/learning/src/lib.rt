@@ -3,7 +3,7 @@
 // not, the last decision is turned round.
 ghost use mathlib.Core.Path.{_≡_};
 ghost use mathlib.Core.Bool.{true};
-ghost use Prim.Native.Nat.{ℕ, _+_, _/_, _<_, _≤_};
+ghost use Prim.Native.Nat.{_+_, _/_, _<_, _≤_};
 ghost use lib.ListN.{length};
 ghost use denote.Ref.{name};
 ghost use Rattle.clauses.specs.Formulas.{negation};

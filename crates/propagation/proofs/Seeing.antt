@@ -1,14 +1,14 @@
 -- What a look at a clause says of models.
-use mathlib.Core.Path.{_≡_, refl, sym, _∙_, ap, subst}
-use mathlib.Core.Bool.{Bool, true, false, not}
+use mathlib.Core.Path.{_≡_, sym, _∙_, ap, subst}
+use mathlib.Core.Bool.{true}
 use mathlib.Core.Logic.{_⊎_, inl, inr}
 use mathlib.Core.List.{List}
-use Prim.Native.Nat.{ℕ, _+_, _-_, _/_, _%_, _<_, _≤_}
+use Prim.Native.Nat.{ℕ, _+_, _-_, _%_, _<_, _≤_}
 use native.Mathlib.Omega.{arith}
-use lib.ListN.{length, getD}
+use lib.ListN.{getD}
 use Rattle.std.proofs.shelf.Tests.{cases-eq, both-ways, not-true}
 use Rattle.clauses.specs.Formulas.{Assignment, value, negation, Models}
-use Rattle.clauses.specs.Stores.{from, to, Some-true, Sound}
+use Rattle.clauses.specs.Stores.{from, to, Sound}
 use Rattle.clauses.proofs.Literals.{negation-half, value-negation}
 use Rattle.trail.specs.Trails.{Is-true, Is-false, Decided, Stuck, On-trail, Held}
 use Rattle.propagation.specs.declared.Look.{Look}

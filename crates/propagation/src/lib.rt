@@ -2,7 +2,6 @@
 // of them becomes false. Nothing rests on which literals are watched: what a look concludes it has
 // seen, and a clause that is not looked at concludes nothing.
 ghost use mathlib.Core.Path.{_≡_};
-ghost use mathlib.Core.Bool.{true, false};
 ghost use Prim.Native.Nat.{ℕ, _+_, _*_, _/_, _<_, _≤_};
 ghost use lib.ListN.{length, getD};
 ghost use Rattle.std.specs.Options.{Cases};

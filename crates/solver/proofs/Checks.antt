@@ -1,7 +1,7 @@
 -- Values that make a literal of each clause true are a model; those that do not are in no model's way.
-use mathlib.Core.Path.{_≡_, refl, sym, _∙_, ap, subst}
-use mathlib.Core.Bool.{Bool, true, false, not, cond}
-use mathlib.Core.Logic.{_⊎_, inl, inr}
+use mathlib.Core.Path.{_≡_, sym, _∙_, ap, subst}
+use mathlib.Core.Bool.{Bool, true, not, cond}
+use mathlib.Core.Logic.{inl, inr}
 use mathlib.Core.List.{List}
 use Prim.Native.Nat.{ℕ, _+_, _-_, _/_, _%_, _<_, _≤_}
 use native.Mathlib.Omega.{arith}
@@ -10,9 +10,8 @@ use lib.ListN.{length, getD, take, drop}
 use Rattle.std.proofs.shelf.Lists.{length-take, length-drop, getD-take, getD-drop}
 use Rattle.std.proofs.shelf.Tests.{cases-eq, eq-eqb, ne-eqb}
 use Rattle.clauses.specs.Formulas.{Assignment, value, Models}
-use Rattle.clauses.specs.Stores.{from, to, formula, Stored, Some-true, Sound}
-use Rattle.clauses.proofs.Literals.{own-sound}
-use Rattle.trail.specs.Trails.{Is-true, Is-false, Stuck, Held}
+use Rattle.clauses.specs.Stores.{from, to, Some-true, Sound}
+use Rattle.trail.specs.Trails.{Is-true, Stuck, Held}
 use Rattle.propagation.specs.Looking.{Differs}
 use Rattle.propagation.proofs.Seeing.{stuck}
 use Rattle.learning.specs.Turning.{Known, Follows}

@@ -3,7 +3,7 @@
 // room for one, the last decision is turned round.
 ghost use mathlib.Core.Path.{_≡_};
 ghost use mathlib.Core.Bool.{true, false};
-ghost use Prim.Native.Nat.{ℕ, _/_, _<_, _≤_};
+ghost use Prim.Native.Nat.{_/_, _<_, _≤_};
 ghost use lib.ListN.{length};
 ghost use Rattle.clauses.specs.Formulas.{Assignment, Models};
 ghost use Rattle.clauses.specs.Stores.{formulaOf, StoredS, SoundS};

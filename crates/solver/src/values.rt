@@ -1,8 +1,8 @@
 // Which variable is to be decided next; and when all have a value, whether these are a model.
 ghost use mathlib.Core.Path.{_≡_};
 ghost use mathlib.Core.Bool.{true, false};
-ghost use Prim.Native.Nat.{ℕ, _<_, _≤_};
-ghost use lib.ListN.{length, getD};
+ghost use Prim.Native.Nat.{_<_};
+ghost use lib.ListN.{length};
 ghost use Rattle.clauses.specs.Formulas.{Models};
 ghost use Rattle.clauses.specs.Stores.{from, to, formulaOf, StoredS, Some-true};
 ghost use Rattle.trail.specs.Trails.{Good, Jammed};

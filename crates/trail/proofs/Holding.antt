@@ -1,6 +1,6 @@
 -- What a trail holds, when a literal comes, when the last goes, and when a decision is turned round.
-use mathlib.Core.Path.{_≡_, refl, sym, _∙_, ap, subst}
-use mathlib.Core.Bool.{Bool, true, false, not, cond}
+use mathlib.Core.Path.{_≡_, sym, _∙_, ap, subst}
+use mathlib.Core.Bool.{true, not, cond}
 use mathlib.Core.Logic.{⊎-elim}
 use mathlib.Core.List.{List}
 use Prim.Native.Nat.{ℕ, _+_, _/_, _%_, _<_, _≤_}
@@ -11,8 +11,8 @@ use Rattle.std.proofs.shelf.Lists.{length-set, getD-set-same, getD-set-other}
 use Rattle.std.proofs.shelf.Sums.{sumBy-set, getD-le-sumBy}
 use Rattle.std.proofs.shelf.Tests.{cases-eq, cases-bool, ne-eqb, cond-false}
 use Rattle.clauses.specs.Formulas.{Assignment, value, negation, Models}
-use Rattle.clauses.proofs.Literals.{negation-half, value-negation}
-use Rattle.trail.specs.Trails.{Decided, Stuck, On-trail, unknown, Held}
+use Rattle.clauses.proofs.Literals.{value-negation}
+use Rattle.trail.specs.Trails.{Decided, Stuck, unknown, Held}
 
 -- one literal more
 module _ (f : List (List ℕ)) (v : ℕ) (values literals marks values′ literals′ marks′ : List ℕ) (n l mark : ℕ) (held : Held f v values literals marks n) (free : getD values (l / 2) 0 ≡ 0) (known : l / 2 < v) (new-values : values′ ≡ set values (l / 2) (1 + l % 2)) (new-literals : literals′ ≡ set literals n l) (new-marks : marks′ ≡ set marks n mark) where

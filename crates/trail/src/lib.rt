@@ -2,12 +2,12 @@
 // it is what falls: no step but one from a counted budget makes it larger as a number in base 3.
 ghost use mathlib.Core.Path.{_≡_};
 ghost use mathlib.Core.Bool.{true, false};
-ghost use Prim.Native.Nat.{ℕ, _+_, _-_, _*_, _/_, _%_, _<_, _≤_};
+ghost use Prim.Native.Nat.{ℕ, _+_, _-_, _/_, _%_, _<_, _≤_};
 ghost use lib.Dec.{eqb};
 ghost use lib.ListN.{length, getD, set};
 ghost use Rattle.clauses.specs.Formulas.{Assignment, value, negation, Models};
 ghost use Rattle.clauses.specs.Stores.{formulaOf};
-ghost use Rattle.trail.specs.Trails.{Is-true, Is-false, Decided, Good, Jammed, rank};
+ghost use Rattle.trail.specs.Trails.{Decided, Good, Jammed, rank};
 use clauses::Store;
 use clauses::negated;
 

@@ -1,7 +1,5 @@
 use mathlib.Core.Path.{subst}
-use Prim.Native.Nat.{_/_, _<_}
 use native.Mathlib.Omega.{arith}
-use lib.ListN.{length}
 use Rattle.clauses.specs.Stores.{formulaOf}
 use Rattle.propagation.specs.declared.Look.{Look}
 use Rattle.propagation.specs.declared.Look.the-variants.{Implied, Conflict}

@@ -1,4 +1,3 @@
-use lib.ListN.{length}
 use Rattle.clauses.specs.Stores.{formulaOf}
 use Rattle.analysis.specs.Marking.{NotedA, Grown, All-taken}
 use Rattle.analysis.proofs.Analysis.absorb.Given as given

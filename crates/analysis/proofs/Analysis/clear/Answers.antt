@@ -2,7 +2,7 @@ use mathlib.Core.Path.{_≡_, sym, _∙_, ap, subst}
 use mathlib.Core.List.{List}
 use Prim.Native.Nat.{ℕ, _+_, _<_}
 use native.Mathlib.Omega.{arith}
-use lib.ListN.{length, getD, set}
+use lib.ListN.{getD, set}
 use Rattle.analysis.proofs.Marks.{unmarked-noted, cleared-more, cleared-all, noted-none}
 use Rattle.analysis.proofs.Analysis.clear.Needs as need
 

@@ -1,11 +1,11 @@
-use mathlib.Core.Path.{_≡_, sym, _∙_, ap, subst}
+use mathlib.Core.Path.{_≡_, _∙_, ap}
 use mathlib.Core.List.{List}
-use Prim.Native.Nat.{ℕ, _+_, _<_, _≤_}
+use Prim.Native.Nat.{ℕ}
 use native.Mathlib.Omega.{arith}
-use lib.ListN.{getD, set}
+use lib.ListN.{getD}
 use Rattle.clauses.specs.Stores.{formulaOf}
-use Rattle.analysis.specs.Marking.{literalOf, Apart, Noted}
-use Rattle.analysis.proofs.Marks.{Collected, collected-more, collected-all}
+use Rattle.analysis.specs.Marking.{literalOf}
+use Rattle.analysis.proofs.Marks.{collected-more, collected-all}
 use Rattle.analysis.proofs.Analysis.collect.Needs as need
 
 pub loop-index-again : need.loop-index-again

@@ -1,4 +1,3 @@
-use lib.ListN.{length}
 use Rattle.clauses.specs.Stores.{from}
 use Rattle.solver.specs.Values.{None-true}
 use Rattle.solver.proofs.values.is_satisfied.Given as given

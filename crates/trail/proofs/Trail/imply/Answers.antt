@@ -1,5 +1,4 @@
-use mathlib.Core.Path.{_≡_, refl}
-use Prim.Native.Nat.{_<_}
+use mathlib.Core.Path.{refl}
 use native.Mathlib.Omega.{arith}
 use Rattle.trail.proofs.Numbers.{falls-by-one-more}
 use Rattle.trail.proofs.Holding.{room-for-one, held-more}

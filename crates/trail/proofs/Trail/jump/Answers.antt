@@ -1,7 +1,7 @@
 use mathlib.Core.Path.{_≡_, refl, sym, _∙_, ap}
 use Prim.Native.Nat.{ℕ, _+_, _/_, _<_}
 use native.Mathlib.Omega.{arith}
-use lib.ListN.{length, getD, set}
+use lib.ListN.{getD, set}
 use mathlib.Core.List.{List}
 use Rattle.clauses.specs.Formulas.{value}
 use Rattle.clauses.proofs.Literals.{negation-half}

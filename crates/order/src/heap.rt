@@ -30,7 +30,8 @@ pub struct Order<'a> {
     step: u32,
 }
 
-fn clear(words: &mut [u32])
+// Makes all words 0.
+pub fn clear(words: &mut [u32])
     ensures { λ _. ⌜ ((k : ℕ) → getD (now (words .exit)) k 0 ≡ 0) ⌝ }
 {
     for word in words.iter_mut() {

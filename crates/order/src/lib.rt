@@ -8,6 +8,7 @@ mod score;
 mod heap;
 
 pub use heap::Order;
+pub use heap::clear;
 pub use score::grown;
 pub use score::shrunk;
 pub use score::sum;

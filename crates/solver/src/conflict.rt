@@ -38,8 +38,8 @@ pub fn first_decision(trail: &Trail) -> usize
     trail.len
 }
 
-// Gives the variables from a place of the trail on back to the order, and notes which of their values
-// is to be tried first.
+// Gives the variables from a place of the trail on back to the order, and notes their values, which
+// are tried first the next time: 1 true, 0 false.
 pub fn release(trail: &Trail, order: &mut Order, phases: &mut [u32], decided: usize, from: usize)
     requires long { ⌜ now trail .len ≤ length (now (now trail .literals)) ⌝ }
     requires ordered { ⌜ Ordered (length (now (now order .scores))) (now order) ⌝ }
@@ -49,7 +49,7 @@ pub fn release(trail: &Trail, order: &mut Order, phases: &mut [u32], decided: us
         let literal = trail.literals[place];
         let variable = (literal / 2) as usize;
         if variable < phases.len() {
-            phases[variable] = literal % 2;
+            phases[variable] = 1 - literal % 2;
         }
         if variable < decided && variable < order.scores.len() {
             order.insert(literal / 2);

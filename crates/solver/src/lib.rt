@@ -118,6 +118,7 @@ pub fn solve(
     requires ordered { ⌜ Ordered (length (now (now order .scores))) (now order) ⌝ }
     requires few { ⌜ variables < 2147483647 ⌝ }
     ensures model { λ r. ⌜ (r ≡ true → Models (formulaOf (now (problem .entry))) (assignment (now (now (trail .exit) .values)))) ⌝ }
+    ensures size { λ r. ⌜ (r ≡ true → length (now (now (trail .exit) .values)) ≡ variables) ⌝ }
     ensures none { λ r. ⌜ (r ≡ false → (α : Assignment) → Models (formulaOf (now (problem .entry))) α → ⊥) ⌝ }
     ensures learned { λ _. ⌜ SoundS (formulaOf (now (problem .entry))) variables (now (learned .exit)) ⌝ }
     ensures causes { λ _. ⌜ Caused variables (now (causes .exit)) ⌝ }
@@ -201,7 +202,7 @@ pub fn solve(
             start = trail.len.saturating_sub(1);
             continue;
         };
-        let phase = if (variable as usize) < phases.len() && phases[variable as usize] == 0 {
+        let phase = if (variable as usize) < phases.len() && phases[variable as usize] == 1 {
             0
         } else {
             1

@@ -8,7 +8,7 @@ use native.Mathlib.Omega.{arith}
 use lib.Dec.{eqb}
 use lib.ListN.{length, getD, set}
 use Rattle.std.proofs.shelf.Lists.{length-set, getD-set-same, getD-set-other}
-use Rattle.std.proofs.shelf.Sums.{sumBy-set, getD-le-sumBy}
+use Rattle.std.proofs.shelf.Sums.{sumBy-set, getD-le-sumBy, countBy-le-length}
 use Rattle.std.proofs.shelf.Tests.{cases-eq, cases-bool, ne-eqb, cond-false}
 use Rattle.clauses.specs.Formulas.{Assignment, value, negation, Models}
 use Rattle.clauses.proofs.Literals.{value-negation}
@@ -139,3 +139,18 @@ freed-more values literals literals₀ k n m ek e known h q a b =
   where
     le : (getD literals₀ q 0 / 2 ≡ getD literals n 0 / 2 → ⊥) → k ≤ q
     le ne = ⊎-elim (λ s. absurd (ne (ap (λ (y : ℕ). getD literals₀ y 0 / 2) s ∙ sym (ap (λ (xs : List ℕ). getD xs n 0 / 2) e)))) (λ d. omega arith) (cases-eq q n)
+
+-- no literal at all
+pub held-none : (f : List (List ℕ)) (v : ℕ) (values literals marks : List ℕ) → length values ≡ v → v ≤ length literals → v ≤ length marks → ((x : ℕ) → getD values x 0 ≡ 0) → Held f v values literals marks 0
+unfolding unknown
+held-none f v values literals marks size literals-room marks-room zero =
+    record {
+      size = size;
+      room = omega (arith, countBy-le-length (λ x. eqb x 0) values);
+      literals-room = literals-room;
+      marks-room = marks-room;
+      small = λ x. omega (arith, zero x);
+      known = λ p h. absurd (omega arith);
+      stands = λ l e. absurd (omega (arith, zero (l / 2)));
+      implied = λ α m p h. absurd (omega arith);
+    }

@@ -1,0 +1,2 @@
+-- What the call promises.
+pub mod Promise

@@ -1,0 +1,25 @@
+-- What the call promises.
+use mathlib.Core.Path.{_≡_}
+use mathlib.Core.List.{List}
+use Prim.Native.Nat.{ℕ, _+_, _*_, _/_, _<_, _≤_}
+use lib.ListN.{length}
+use Rattle.clauses.specs.Formulas.{Assignment, Models}
+use Rattle.clauses.specs.Stores.{formula, Stored}
+use Rattle.solver.specs.Values.{assignment}
+use Rattle.sat.specs.declared.Answer.{Answer}
+use Rattle.sat.specs.declared.Answer.the-variants.{Model, None, Bad, Few}
+
+-- the words that have to be lent for v variables and so many clauses
+unfoldable pub floorOf : ℕ → ℕ → ℕ
+floorOf v clauses = 15 * v + 4 * clauses
+
+-- the clauses that spans say, each within the words, and of literals of v variables
+abbrev pub Clauses : ℕ → List ℕ → List ℕ → Type 0
+Clauses v spans words = Stored v spans words (length spans / 2) (length words)
+
+-- the values are a model; no assignment is; these are no clauses; or too few words were lent, and then nothing is changed
+abbrev pub AnswerPost : List ℕ → List ℕ → List ℕ → List ℕ → ℕ → Answer → Type 0
+AnswerPost spans words values values′ room Model = Models (formula spans words (length spans / 2)) (assignment values′)
+AnswerPost spans words values values′ room None = (α : Assignment) → Models (formula spans words (length spans / 2)) α → ⊥
+AnswerPost spans words values values′ room Bad = ((length values < 2147483647) × Clauses (length values) spans words → ⊥) × (values′ ≡ values)
+AnswerPost spans words values values′ room Few = (room < floorOf (length values) (length spans / 2)) × (values′ ≡ values)

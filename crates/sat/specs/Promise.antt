@@ -10,7 +10,7 @@ use Rattle.sat.specs.declared.Answer.{Answer}
 use Rattle.sat.specs.declared.Answer.the-variants.{Model, None, Bad, Few}
 
 -- the words that have to be lent for v variables and so many clauses
-unfoldable pub floorOf : ℕ → ℕ → ℕ
+abbrev pub floorOf : ℕ → ℕ → ℕ
 floorOf v clauses = 15 * v + 4 * clauses
 
 -- the clauses that spans say, each within the words, and of literals of v variables
@@ -23,3 +23,16 @@ AnswerPost spans words values values′ room Model = Models (formula spans words
 AnswerPost spans words values values′ room None = (α : Assignment) → Models (formula spans words (length spans / 2)) α → ⊥
 AnswerPost spans words values values′ room Bad = ((length values < 2147483647) × Clauses (length values) spans words → ⊥) × (values′ ≡ values)
 AnswerPost spans words values values′ room Few = (room < floorOf (length values) (length spans / 2)) × (values′ ≡ values)
+
+-- an answer as a number
+abbrev pub code : Answer → ℕ
+code None = 0
+code Model = 1
+code Bad = 2
+code Few = 3
+
+-- the number says which answer it is, with what that answer promises
+pub record CodePost (spans words values values′ : List ℕ) (room r : ℕ) : Type 0 where
+  pub answer : Answer
+  pub is : r ≡ code answer
+  pub post : AnswerPost spans words values values′ room answer

@@ -1,7 +1,7 @@
 // Whether clauses have a model: one call on lent memory.
 ghost use mathlib.Core.Path.{_≡_};
 ghost use mathlib.Core.Bool.{true, false};
-ghost use Prim.Native.Nat.{ℕ, _+_, _*_, _<_, _≤_};
+ghost use Prim.Native.Nat.{_+_, _*_, _^_, _<_, _≤_};
 ghost use lib.ListN.{length};
 ghost use Rattle.clauses.specs.Formulas.{Assignment, Models};
 ghost use Rattle.clauses.specs.Stores.{formulaOf, StoredS};
@@ -10,7 +10,7 @@ ghost use Rattle.propagation.specs.Looking.{Caused};
 ghost use Rattle.analysis.specs.Marking.{NotedA};
 ghost use Rattle.order.specs.Orders.{Ordered};
 ghost use Rattle.solver.specs.Values.{assignment};
-ghost use Rattle.sat.specs.Promise.{Clauses, AnswerPost};
+ghost use Rattle.sat.specs.Promise.{floorOf, Clauses, AnswerPost, CodePost};
 use analysis::Analysis;
 use clauses::Store;
 use order::Order;
@@ -172,4 +172,65 @@ fn solve_stored(
     }
     values.copy_from_slice(trail.values);
     true
+}
+
+// The words that have to be lent for so many variables and clauses.
+pub fn floor(variables: usize, clauses: usize) -> usize
+    requires { ⌜ variables < 2147483647 ⌝ ∗ ⌜ clauses < 2 ^ 60 ⌝ }
+    ensures { λ r. ⌜ r ≡ floorOf variables clauses ⌝ }
+{
+    15 * variables + 4 * clauses
+}
+
+// Whether clauses have a model. The literals of a clause stand among the words, from the first of its
+// two spans up to the second; the literal 2x is the variable x, and 2x + 1 its negation; there are as
+// many variables as values. The first so many of them are decided first. Where there is a model, the
+// values become 1 for true and 2 for false.
+pub fn ask(
+    spans: &mut [u32],
+    words: &mut [u32],
+    values: &mut [u32],
+    decided: usize,
+    work: &mut [u32],
+) -> Answer
+    ensures spans { λ _. ⌜ now (spans .exit) ≡ now (spans .entry) ⌝ }
+    ensures words { λ _. ⌜ now (words .exit) ≡ now (words .entry) ⌝ }
+    ensures answer { λ r. ⌜ AnswerPost (now (spans .entry)) (now (words .entry)) (now (values .entry)) (now (values .exit)) (length (now (work .entry))) r ⌝ }
+{
+    let variables = values.len();
+    if variables >= 0x7fff_ffff || !is_stored(spans, words, variables) {
+        return Answer::Bad;
+    }
+    let count = spans.len() / 2;
+    if work.len() < floor(variables, count) {
+        return Answer::Few;
+    }
+    let used = words.len();
+    let problem = Store { spans, words, count, used };
+    if solve_stored(&problem, variables, values, decided, work) {
+        Answer::Model
+    } else {
+        Answer::None
+    }
+}
+
+// The call for other languages: 0 where there is none, 1 a model, 2 bad clauses, 3 few words.
+#[unsafe(no_mangle)]
+pub extern "C" fn sat_ask(
+    spans: &mut [u32],
+    words: &mut [u32],
+    values: &mut [u32],
+    decided: usize,
+    work: &mut [u32],
+) -> u32
+    ensures spans { λ _. ⌜ now (spans .exit) ≡ now (spans .entry) ⌝ }
+    ensures words { λ _. ⌜ now (words .exit) ≡ now (words .entry) ⌝ }
+    ensures code { λ r. ⌜ CodePost (now (spans .entry)) (now (words .entry)) (now (values .entry)) (now (values .exit)) (length (now (work .entry))) r ⌝ }
+{
+    match ask(spans, words, values, decided, work) {
+        Answer::None => 0,
+        Answer::Model => 1,
+        Answer::Bad => 2,
+        Answer::Few => 3,
+    }
 }

@@ -17,10 +17,16 @@ floorOf v clauses = 15 * v + 4 * clauses
 abbrev pub Clauses : ℕ → List ℕ → List ℕ → Type 0
 Clauses v spans words = Stored v spans words (length spans / 2) (length words)
 
--- the values are a model; no assignment is; these are no clauses; or too few words were lent, and then nothing is changed
+-- they are clauses of at most 2³¹ - 2 variables, and words enough were lent
+pub record Accepted (v : ℕ) (spans words : List ℕ) (room : ℕ) : Type 0 where
+  pub few : v < 2147483647
+  pub clauses : Clauses v spans words
+  pub enough : floorOf v (length spans / 2) ≤ room
+
+-- the values are a model; no assignment is; these are no clauses; or too few words were lent. Where nothing was looked for, nothing is changed
 abbrev pub AnswerPost : List ℕ → List ℕ → List ℕ → List ℕ → ℕ → Answer → Type 0
-AnswerPost spans words values values′ room Model = Models (formula spans words (length spans / 2)) (assignment values′)
-AnswerPost spans words values values′ room None = (α : Assignment) → Models (formula spans words (length spans / 2)) α → ⊥
+AnswerPost spans words values values′ room Model = Accepted (length values) spans words room × Models (formula spans words (length spans / 2)) (assignment values′)
+AnswerPost spans words values values′ room None = Accepted (length values) spans words room × ((α : Assignment) → Models (formula spans words (length spans / 2)) α → ⊥)
 AnswerPost spans words values values′ room Bad = ((length values < 2147483647) × Clauses (length values) spans words → ⊥) × (values′ ≡ values)
 AnswerPost spans words values values′ room Few = (room < floorOf (length values) (length spans / 2)) × (values′ ≡ values)
 

@@ -84,7 +84,12 @@ fn solve_watched(
     clear(heads);
     clear(links);
     let mut watches = Watches { heads, links };
-    let mut learned = Store { spans, words, count: 0, used: 0 };
+    let mut learned = Store {
+        spans,
+        words,
+        count: 0,
+        used: 0,
+    };
     solve(
         trail,
         variables,
@@ -129,7 +134,14 @@ fn solve_ordered(
     clear(phases);
     let first = decided.min(variables);
     let mut order = Order::new(scores, heap, places, first);
-    let mut analysis = Analysis { seen, touched, buffer, count: 0, open: 0, size: 0 };
+    let mut analysis = Analysis {
+        seen,
+        touched,
+        buffer,
+        count: 0,
+        open: 0,
+        size: 0,
+    };
     solve_watched(
         trail,
         variables,
@@ -165,8 +177,17 @@ fn solve_stored(
     let (levels, rest) = rest.split_at_mut(variables);
     let (places, rest) = rest.split_at_mut(variables);
     clear(known);
-    let mut trail = Trail { values: known, literals, marks, len: 0 };
-    let mut causes = Causes { reasons, levels, places };
+    let mut trail = Trail {
+        values: known,
+        literals,
+        marks,
+        len: 0,
+    };
+    let mut causes = Causes {
+        reasons,
+        levels,
+        places,
+    };
     if !solve_ordered(&mut trail, variables, &mut causes, problem, decided, rest) {
         return false;
     }
@@ -206,7 +227,12 @@ pub fn ask(
         return Answer::Few;
     }
     let used = words.len();
-    let problem = Store { spans, words, count, used };
+    let problem = Store {
+        spans,
+        words,
+        count,
+        used,
+    };
     if solve_stored(&problem, variables, values, decided, work) {
         Answer::Model
     } else {

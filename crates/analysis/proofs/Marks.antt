@@ -126,7 +126,7 @@ pub collected-skip : (v : ℕ) (values seen touched buffer : List ℕ) (index si
 collected-skip v values seen touched buffer index size ne c =
     record { room = c .room; known = c .known; done = λ i h e. elim (cases-eq i index) [ inl s ↦ absurd (ne (ap (λ (z : ℕ). getD seen (getD touched z 0) 0) (sym s) ∙ e)) | inr d ↦ c .done i (omega arith) e ] }
 
-half : (values : List ℕ) (x : ℕ) → literalOf values x / 2 ≡ x
+pub half : (values : List ℕ) (x : ℕ) → literalOf values x / 2 ≡ x
 half values x = by (eqb (getD values x 0) 1)
   where
     by : (b : Bool) → cond b (2 * x + 1) (2 * x) / 2 ≡ x

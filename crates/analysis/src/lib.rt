@@ -383,6 +383,127 @@ impl Analysis<'_> {
         None
     }
 
+    // Whether all variables of the literals between two places but one's are marked, or have their
+    // values from no decision. It only steers.
+    fn covers(
+        &self,
+        variables: usize,
+        causes: &Causes,
+        words: &[u32],
+        from: usize,
+        to: usize,
+        except: u32,
+    ) -> bool
+        requires noted { ⌜ NotedA variables (now self) ⌝ }
+        requires causes { ⌜ Caused variables (now causes) ⌝ }
+        requires within { ⌜ to ≤ length (now words) ⌝ }
+        requires literals { ⌜ ((p : ℕ) → p < to → getD (now words) p 0 / 2 < variables) ⌝ }
+    {
+        for place in from..to {
+            let variable = (words[place] / 2) as usize;
+            if words[place] != except && self.seen[variable] != 1 && causes.levels[variable] != 0 {
+                return false;
+            }
+        }
+        true
+    }
+
+    // The same of a clause, by its number.
+    fn covers_clause(
+        &self,
+        variables: usize,
+        causes: &Causes,
+        problem: &Store,
+        learned: &Store,
+        base: usize,
+        clause: usize,
+        except: u32,
+    ) -> bool
+        requires noted { ⌜ NotedA variables (now self) ⌝ }
+        requires causes { ⌜ Caused variables (now causes) ⌝ }
+        requires stored { ⌜ StoredS variables (now problem) ⌝ }
+        requires learned { ⌜ StoredS variables (now learned) ⌝ }
+        requires base { ⌜ base ≤ now problem .count ⌝ }
+    {
+        if clause < base {
+            return self.covers(
+                variables,
+                causes,
+                problem.words,
+                problem.from(clause),
+                problem.to(clause),
+                except,
+            );
+        }
+        if clause - base < learned.count {
+            return self.covers(
+                variables,
+                causes,
+                learned.words,
+                learned.from(clause - base),
+                learned.to(clause - base),
+                except,
+            );
+        }
+        false
+    }
+
+    // Unmarks variables that the other marked ones imply; false where the marks are of no use any more.
+    pub fn minimize(
+        &mut self,
+        trail: &Trail,
+        variables: usize,
+        causes: &Causes,
+        problem: &Store,
+        learned: &Store,
+        base: usize,
+        root: usize,
+    ) -> bool
+        requires noted { ⌜ NotedA variables (now self) ⌝ }
+        requires good { ⌜ Good (formulaOf (now problem)) variables (now trail) ⌝ }
+        requires causes { ⌜ Caused variables (now causes) ⌝ }
+        requires root { ⌜ Rooted (now (now trail .marks)) root ⌝ }
+        requires stored { ⌜ StoredS variables (now problem) ⌝ }
+        requires learned { ⌜ SoundS (formulaOf (now problem)) variables (now learned) ⌝ }
+        requires base { ⌜ base ≤ now problem .count ⌝ }
+        requires few { ⌜ variables < 2147483647 ⌝ }
+        requires apart { ⌜ Apart (formulaOf (now problem)) (now (now trail .values)) (now (now self .seen)) ⌝ }
+        ensures noted { λ _. ⌜ NotedA variables (now (self .exit)) ⌝ }
+        ensures apart { λ r. ⌜ (r ≡ true → Apart (formulaOf (now (problem .entry))) (now (now (trail .entry) .values)) (now (now (self .exit) .seen))) ⌝ }
+    {
+        let met = self.count;
+        for index in 0..met {
+            if index >= self.count {
+                return true;
+            }
+            let variable = self.touched[index];
+            let reason = causes.reasons[variable as usize];
+            let literal = negated(false_literal(trail, variable));
+            if self.seen[variable as usize] != 1 || reason == 0 || !trail.holds(literal) {
+                continue;
+            }
+            let clause = reason as usize - 1;
+            if !self.covers_clause(variables, causes, problem, learned, base, clause, literal) {
+                continue;
+            }
+            if !self.resolve(
+                trail,
+                variables,
+                causes,
+                problem,
+                learned,
+                base,
+                root,
+                0,
+                clause,
+                literal,
+            ) {
+                return false;
+            }
+        }
+        true
+    }
+
     // Writes the clause of the marked variables' false literals into the buffer; false where there is
     // no room.
     pub fn collect(&mut self, trail: &Trail, variables: usize, problem: &Store) -> bool

@@ -276,6 +276,9 @@ pub fn learn(
         return turn_round(trail, variables, causes, problem);
     };
     bump_met(analysis, order);
+    if !analysis.minimize(trail, variables, causes, problem, learned, base, root) {
+        return turn_round(trail, variables, causes, problem);
+    }
     if !analysis.collect(trail, variables, problem) {
         return turn_round(trail, variables, causes, problem);
     }

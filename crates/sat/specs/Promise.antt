@@ -23,10 +23,10 @@ pub record Accepted (v : ℕ) (spans words : List ℕ) (room : ℕ) : Type 0 whe
   pub clauses : Clauses v spans words
   pub enough : floorOf v (length spans / 2) ≤ room
 
--- the values are a model; no assignment is; these are no clauses; or too few words were lent. Where nothing was looked for, nothing is changed
+-- the values are a model; no assignment is; these are no clauses; or too few words were lent. Only a model changes the values
 abbrev pub AnswerPost : List ℕ → List ℕ → List ℕ → List ℕ → ℕ → Answer → Type 0
 AnswerPost spans words values values′ room Model = Accepted (length values) spans words room × Models (formula spans words (length spans / 2)) (assignment values′)
-AnswerPost spans words values values′ room None = Accepted (length values) spans words room × ((α : Assignment) → Models (formula spans words (length spans / 2)) α → ⊥)
+AnswerPost spans words values values′ room None = Accepted (length values) spans words room × ((α : Assignment) → Models (formula spans words (length spans / 2)) α → ⊥) × (values′ ≡ values)
 AnswerPost spans words values values′ room Bad = ((length values < 2147483647) × Clauses (length values) spans words → ⊥) × (values′ ≡ values)
 AnswerPost spans words values values′ room Few = (room < floorOf (length values) (length spans / 2)) × (values′ ≡ values)
 

@@ -169,6 +169,7 @@ fn solve_stored(
     requires room { ⌜ 15 * variables + 4 * now problem .count ≤ length (now work) ⌝ }
     ensures model { λ r. ⌜ (r ≡ true → Models (formulaOf (now (problem .entry))) (assignment (now (values .exit)))) ⌝ }
     ensures none { λ r. ⌜ (r ≡ false → (α : Assignment) → Models (formulaOf (now (problem .entry))) α → ⊥) ⌝ }
+    ensures same { λ r. ⌜ (r ≡ false → now (values .exit) ≡ now (values .entry)) ⌝ }
 {
     let (known, rest) = work.split_at_mut(variables);
     let (literals, rest) = rest.split_at_mut(variables);

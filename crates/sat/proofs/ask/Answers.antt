@@ -15,5 +15,5 @@ returns-else-solve-stored c =
     record {
       spans = refl;
       words = refl;
-      answer = (record { few = omega arith; clauses = c .if-not-is-stored .ensures tt .yes refl; enough = omega arith }, c .if-solve-stored .ensures tt .none refl);
+      answer = (record { few = omega arith; clauses = c .if-not-is-stored .ensures tt .yes refl; enough = omega arith }, c .if-solve-stored .ensures tt .none refl, c .if-solve-stored .ensures tt .same refl);
     }

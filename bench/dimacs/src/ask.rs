@@ -7,19 +7,6 @@ pub enum Answer {
     None,
 }
 
-/// What the solver did, by its own count.
-#[derive(Clone, Copy)]
-pub struct Counts {
-    pub conflicts: u64,
-    pub decisions: u64,
-    pub restarts: u64,
-    pub reductions: u64,
-    /// How often analysis found no clause, so that all decisions were refused by one.
-    pub refusals: u64,
-    /// How many learned clauses found no room.
-    pub unkept: u64,
-}
-
 unsafe extern "C" {
     fn sat_ask(
         spans: *mut u32,
@@ -29,31 +16,9 @@ unsafe extern "C" {
         values: *mut u32,
         values_length: usize,
         decided: usize,
-        assumptions: *const u32,
-        assumptions_length: usize,
-        counts: *mut u64,
-        counts_length: usize,
         work: *mut u32,
         work_length: usize,
     ) -> u32;
-
-    fn sat_first(
-        spans: *mut u32,
-        spans_length: usize,
-        words: *mut u32,
-        words_length: usize,
-        count: usize,
-        used: usize,
-        values: *mut u32,
-        values_length: usize,
-        decided: usize,
-        low: usize,
-        high: usize,
-        counts: *mut u64,
-        counts_length: usize,
-        work: *mut u32,
-        work_length: usize,
-    ) -> u64;
 }
 
 const NONE: u32 = 0;
@@ -61,25 +26,17 @@ const MODEL: u32 = 1;
 const BAD: u32 = 2;
 const FEW: u32 = 3;
 
-/// What the values hold before a call, and still hold after one that finds no model.
-const UNTOUCHED: u32 = 7;
-
 /// The words of memory that have to be lent for a formula.
 pub fn floor(formula: &Formula) -> usize {
     15 * formula.variables + 4 * (formula.spans.len() / 2)
 }
 
-/// Asks whether a formula has a model with the assumptions, with lent memory that may hold
-/// anything. An error is an answer that breaks the promise.
-pub fn ask(
-    formula: &Formula,
-    assumptions: &[u32],
-    work: &mut [u32],
-) -> Result<(Answer, Counts), String> {
+/// Asks whether a formula has a model, with lent memory that may hold anything. An error
+/// is an answer that breaks the promise.
+pub fn ask(formula: &Formula, work: &mut [u32]) -> Result<Answer, String> {
     let mut spans = formula.spans.clone();
     let mut words = formula.words.clone();
-    let mut values = vec![UNTOUCHED; formula.variables];
-    let mut counts = [0; 6];
+    let mut values = vec![7; formula.variables];
     // SAFETY: each pointer is of a slice of that length, which nothing else reads or writes.
     let code = unsafe {
         sat_ask(
@@ -90,10 +47,6 @@ pub fn ask(
             values.as_mut_ptr(),
             values.len(),
             formula.variables,
-            assumptions.as_ptr(),
-            assumptions.len(),
-            counts.as_mut_ptr(),
-            counts.len(),
             work.as_mut_ptr(),
             work.len(),
         )
@@ -101,74 +54,16 @@ pub fn ask(
     if spans != formula.spans || words != formula.words {
         return Err(format!("the call answered {code} and changed the clauses"));
     }
-    if code != MODEL && values.iter().any(|value| *value != UNTOUCHED) {
+    if code != MODEL && values.iter().any(|value| *value != 7) {
         return Err(format!("the call answered {code}, which is no model, and changed the values"));
     }
-    let [conflicts, decisions, restarts, reductions, refusals, unkept] = counts;
-    let counts = Counts { conflicts, decisions, restarts, reductions, refusals, unkept };
     match code {
-        NONE => Ok((Answer::None, counts)),
-        MODEL => {
-            let model = model(formula, &values)?;
-            if assumptions.iter().all(|literal| holds(&model, *literal)) {
-                Ok((Answer::Model(model), counts))
-            } else {
-                Err("an assumption is false in the call's model".into())
-            }
-        }
+        NONE => Ok(Answer::None),
+        MODEL => Ok(Answer::Model(model(formula, &values)?)),
         BAD => Err("the call says that the clauses are none".into()),
         FEW => Err(format!("the call says that {} words are too few", work.len())),
         code => Err(format!("the call answered {code}, which is no answer")),
     }
-}
-
-/// Asks for the first model by the variables of a range, with how many questions.
-pub fn first(
-    formula: &Formula,
-    low: usize,
-    high: usize,
-    work: &mut [u32],
-) -> Result<Option<(Vec<bool>, u64)>, String> {
-    let count = formula.spans.len() / 2;
-    let used = formula.words.len();
-    let more = high.saturating_sub(low);
-    let mut spans = formula.spans.clone();
-    let mut words = formula.words.clone();
-    spans.resize(2 * (count + more), UNTOUCHED);
-    words.resize(used + more, UNTOUCHED);
-    let mut values = vec![UNTOUCHED; formula.variables];
-    // SAFETY: each pointer is of a slice of that length, which nothing else reads or writes.
-    let code = unsafe {
-        sat_first(
-            spans.as_mut_ptr(),
-            spans.len(),
-            words.as_mut_ptr(),
-            words.len(),
-            count,
-            used,
-            values.as_mut_ptr(),
-            values.len(),
-            high,
-            low,
-            high,
-            std::ptr::dangling_mut(),
-            0,
-            work.as_mut_ptr(),
-            work.len(),
-        )
-    };
-    match code {
-        0 if values.iter().all(|value| *value == UNTOUCHED) => Ok(None),
-        0 => Err("the call found no model and changed the values".into()),
-        1 => Err("the call says that the clauses are none".into()),
-        2 => Err(format!("the call says that {} words are too few", work.len())),
-        code => Ok(Some((model(formula, &values)?, code - 2))),
-    }
-}
-
-/// Whether a literal is true in a model.
-pub fn holds(model: &[bool], literal: u32) -> bool {
-    model[(literal / 2) as usize] == literal.is_multiple_of(2)
 }
 
 /// The assignment that the values are, if it is a model.

@@ -13,15 +13,12 @@ use clauses::{Store, negated};
 use propagation::Causes;
 use trail::Trail;
 
-// Which variables are marked; all that were marked once, in turn; the clause that is learned; and when
-// each learned clause last took part, by a clock of conflicts.
+// Which variables are marked; all that were marked once, in turn; and the clause that is learned.
 #[derive(Drop)]
 pub struct Analysis<'a> {
     pub seen: &'a mut [u32],
     pub touched: &'a mut [u32],
     pub buffer: &'a mut [u32],
-    pub uses: &'a mut [u32],
-    pub clock: u32,
     pub count: usize,
     pub open: usize,
     pub size: usize,
@@ -99,17 +96,6 @@ impl Analysis<'_> {
             self.open = self.open.saturating_add(1);
         }
         true
-    }
-
-    // Notes that a learned clause takes part.
-    pub fn note_use(&mut self, clause: usize)
-        ensures seen { self.new.seen.now ≡ self.old.seen.now }
-        ensures touched { self.new.touched.now ≡ self.old.touched.now }
-        ensures count { self.new.count ≡ self.old.count }
-    {
-        if clause < self.uses.len() {
-            self.uses[clause] = self.clock;
-        }
     }
 
     // Marks the variables of all literals between two places but one.
@@ -254,7 +240,6 @@ impl Analysis<'_> {
             );
         }
         if clause - base < learned.count {
-            self.note_use(clause - base);
             return self.absorb_learned(
                 trail,
                 variables,

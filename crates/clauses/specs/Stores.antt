@@ -53,8 +53,6 @@ pub record Added (v : ℕ) (c : List ℕ) (s t : Store) : Type 0 where
   pub formula : formula_of t ≡ formula_of s ++ (c ∷ [])
   pub count : t.count ≡ s.count + 1
   pub used : t.used ≡ s.used + length c
-  pub spans_size : length t.spans.now ≡ length s.spans.now
-  pub words_size : length t.words.now ≡ length s.words.now
 
 pub record Same (s t : Store) : Type 0 where
   pub spans : t.spans.now ≡ s.spans.now

@@ -1,4 +1,2 @@
 -- values and models
 pub mod Checks
--- a clause more
-pub mod Fixing

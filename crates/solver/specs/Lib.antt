@@ -1,4 +1,2 @@
 -- Values that are a model.
 pub mod Values
--- Assumptions.
-pub mod Assumptions

@@ -38,9 +38,6 @@ module _ (f : List (List ℕ)) (v : ℕ) (values literals marks values' literals
   values_new : get_or values' (l / 2) 0 ≡ 1 + l % 2
   values_new = ap (λ (xs : List ℕ). get_or xs (l / 2) 0) new-values ∙ get_or-set_same values (l / 2) (1 + l % 2) 0 in_values
 
-  other_variable : (p : ℕ) → p < n → get_or literals p 0 / 2 ≡ l / 2 → ⊥
-  other_variable p h e = let a = held.placed p h in let b : get_or values (get_or literals p 0 / 2) 0 ≡ get_or values (l / 2) 0 = ap (λ (y : ℕ). get_or values y 0) e in omega (arith, free)
-
   fewer_unknown : unknown values' + (n + 1) ≤ v
   unfolding unknown
   fewer_unknown =
@@ -68,17 +65,6 @@ module _ (f : List (List ℕ)) (v : ℕ) (values literals marks values' literals
             (λ e. let a : get_or values' (k / 2) 0 ≡ 1 + l % 2 = ap (λ (y : ℕ). get_or values' y 0) e ∙ values_new in let s : l ≡ k = omega arith in record { at = n; high = omega arith; is = literals_new ∙ s })
             (λ ne. let o = held.stands k (sym (values_old (k / 2) ne) ∙ h) in record { at = o.at; high = omega (arith, o.high); is = literals_old o.at o.high ∙ o.is })
             (cases_eq (k / 2) (l / 2));
-        placed = λ p h.
-            ⊎_elim
-            (λ e. subst (λ (y : ℕ). get_or values' (y / 2) 0 ≡ 1 + y % 2) (sym (ap (λ (y : ℕ). get_or literals' y 0) e ∙ literals_new)) values_new)
-            (λ ne. let q : p < n = omega arith in subst (λ (y : ℕ). get_or values' (y / 2) 0 ≡ 1 + y % 2) (sym (literals_old p q)) (values_old (get_or literals p 0 / 2) (other_variable p q) ∙ held.placed p q))
-            (cases_eq p n);
-        distinct = λ p q a b i.
-            let r : p < n = omega arith in
-            ⊎_elim
-            (λ e. other_variable p r (ap (λ (y : ℕ). y / 2) (sym (literals_old p r)) ∙ i ∙ ap (λ (y : ℕ). y / 2) (ap (λ (y : ℕ). get_or literals' y 0) e ∙ literals_new)))
-            (λ ne. let t : q < n = omega arith in held.distinct p q a t (ap (λ (y : ℕ). y / 2) (sym (literals_old p r)) ∙ i ∙ ap (λ (y : ℕ). y / 2) (literals_old q t)))
-            (cases_eq q n);
         implied = λ α m p h d.
             ⊎_elim
             (λ e.
@@ -120,8 +106,6 @@ module _ (f : List (List ℕ)) (v : ℕ) (values literals marks : List ℕ) (k n
             let q : o.at ≡ n → ⊥ = λ i. ne (ap (λ (y : ℕ). y / 2) (sym o.is ∙ ap (λ (y : ℕ). get_or literals y 0) i)) in
             record { at = o.at; high = omega (arith, o.high); is = o.is })
             (cases_eq (l / 2) x0);
-        placed = λ p h. old (get_or literals p 0 / 2) (held.distinct p n h (omega arith)) ∙ held.placed p (omega arith);
-        distinct = λ p q a b. held.distinct p q a (omega arith);
         implied = λ α m p h d. held.implied α m p (omega arith) d;
       }
 
@@ -161,7 +145,5 @@ held_none f v values literals marks size literals_room marks_room zero =
       small = λ x. omega (arith, zero x);
       known = λ p h. absurd (omega arith);
       stands = λ l e. absurd (omega (arith, zero (l / 2)));
-      placed = λ p h. absurd (omega arith);
-      distinct = λ p q a b. absurd (omega arith);
       implied = λ α m p h. absurd (omega arith);
     }

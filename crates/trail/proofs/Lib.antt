@@ -1,6 +1,4 @@
 -- the trail as a number
 pub mod Numbers
--- decisions that stay, and assumptions
-pub mod Assuming
 -- what is held when literals come and go
 pub mod Holding

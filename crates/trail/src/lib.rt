@@ -3,7 +3,7 @@
 ghost use Rattle.std.specs.Prelude.{◌≡◌, ℕ, ◌+◌, ◌-◌, ◌/◌, ◌%◌, ◌<◌, ◌≤◌, true, false, length, ◌==◌, slice_index, slice_set};
 ghost use Rattle.clauses.specs.Formulas.{Assignment, value, negation, Models};
 ghost use Rattle.clauses.specs.Stores.{formula_of};
-ghost use Rattle.trail.specs.Trails.{Decided, Good, Jammed, Later, rank};
+ghost use Rattle.trail.specs.Trails.{Decided, Good, Jammed, rank};
 
 use clauses::{Store, negated};
 
@@ -73,7 +73,6 @@ impl Trail<'_> {
         requires implied { (α : Assignment) → Models (formula_of problem.now) α → Decided self.old.literals.now self.old.marks.now α self.old.len → value α literal ≡ true }
         ensures good { Good (formula_of problem.now) variables self.new }
         ensures less { (budget : ℕ) → rank variables budget self.new < rank variables budget self.old }
-        ensures later { Later self.old self.new }
         ensures len { self.new.len ≡ self.old.len + 1 }
         ensures values { self.new.values.now ≡ slice_set self.old.values.now (literal / 2) (1 + literal % 2) }
     {
@@ -87,8 +86,6 @@ impl Trail<'_> {
         requires free { slice_index self.old.values.now (literal / 2) ≡ 0 }
         ensures good { Good (formula_of problem.now) variables self.new }
         ensures less { (budget : ℕ) → rank variables budget self.new < rank variables budget self.old }
-        ensures literals { self.new.literals.now ≡ slice_set self.old.literals.now self.old.len literal }
-        ensures marks { self.new.marks.now ≡ slice_set self.old.marks.now self.old.len 1 }
         ensures len { self.new.len ≡ self.old.len + 1 }
     {
         self.put(literal, 1);
@@ -121,7 +118,6 @@ impl Trail<'_> {
         requires forced { (α : Assignment) → Models (formula_of problem.now) α → Decided self.old.literals.now self.old.marks.now α decision → value α (negation (slice_index self.old.literals.now place)) ≡ true }
         ensures good { Good (formula_of problem.now) variables self.new }
         ensures less { (budget : ℕ) → rank variables budget self.new < rank variables budget self.old }
-        ensures later { Later self.old self.new }
         ensures len { self.new.len ≡ decision + 1 }
     {
         let literal = negated(self.literals[place]);
@@ -129,13 +125,11 @@ impl Trail<'_> {
         self.put(literal, 0);
     }
 
-    // Goes back to the last decision and turns it round; false where there is none, and so no model;
-    // then nothing is left on the trail.
+    // Goes back to the last decision and turns it round; false where there is none, and so no model.
     pub fn flip(&mut self, problem: &Store, variables: usize) -> bool
         requires good { Good (formula_of problem.now) variables self.old }
         requires jammed { Jammed (formula_of problem.now) self.old }
-        ensures good { Good (formula_of problem.now) variables self.new }
-        ensures later { Later self.old self.new }
+        ensures good { result ≡ true → Good (formula_of problem.now) variables self.new }
         ensures less { result ≡ true → (budget : ℕ) → rank variables budget self.new < rank variables budget self.old }
         ensures none { result ≡ false → (α : Assignment) → Models (formula_of problem.now) α → ⊥ }
     {

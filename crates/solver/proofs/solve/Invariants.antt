@@ -1,19 +1,20 @@
-use Rattle.std.proofs.Common.{◌+◌, ◌≤◌, length}
+use Rattle.std.proofs.Common.{length}
 use Rattle.clauses.specs.Stores.{formula_of, SoundS}
-use Rattle.trail.specs.Trails.{Good, AssumedT, rank}
+use Rattle.trail.specs.Trails.{Good, rank}
 use Rattle.propagation.specs.Looking.{Caused}
 use Rattle.analysis.specs.Marking.{NotedA}
 use Rattle.order.specs.Orders.{Ordered}
-use Rattle.solver.specs.Assumptions.{Wished}
 use Rattle.solver.proofs.solve.Given as goal
+
+abbrev pub invariant-loop-clause : goal.invariant-loop-clause
+invariant-loop-clause l = record {
+  good : Good (formula_of l.problem) l.variables l.trail;
+  causes : Caused l.variables l.causes;
+}
 
 abbrev pub invariant-loop-conflict : goal.invariant-loop-conflict
 invariant-loop-conflict l = record {
   good : Good (formula_of l.problem) l.variables l.trail;
-  assumed : AssumedT l.assumptions l.force l.trail;
-  firm : l.firm ≤ l.force;
-  force : l.force ≤ length l.assumptions;
-  wished : Wished (formula_of l.problem) l.assumptions l.force;
   learned : SoundS (formula_of l.problem) l.variables l.learned;
   causes : Caused l.variables l.causes;
   noted : NotedA l.variables l.analysis;
@@ -21,4 +22,4 @@ invariant-loop-conflict l = record {
 }
 
 abbrev pub decreases-loop-conflict : goal.decreases-loop-conflict
-decreases-loop-conflict l = rank l.variables (l.restarts + l.force) l.trail
+decreases-loop-conflict l = rank l.variables l.restarts l.trail

@@ -1,4 +1,4 @@
-use Rattle.std.proofs.Common.{◌≡◌, ℕ, ◌+◌, ◌*◌, ◌^◌, ◌<◌, ◌≤◌, List, [], ◌∷◌, ◌++◌, length, set, sym, refl, ap, subst, arith, length-set}
+use Rattle.std.proofs.Common.{◌≡◌, ℕ, ◌+◌, ◌*◌, ◌^◌, ◌<◌, ◌≤◌, List, [], ◌∷◌, ◌++◌, length, set, sym, refl, ap, subst, arith}
 use Rattle.clauses.specs.Stores.{formula, Stored}
 use Rattle.clauses.proofs.Copies.{Copied, added_formula, added_stored}
 use Rattle.clauses.proofs.store.Store.add.Goals as goal
@@ -21,8 +21,6 @@ returns c =
           formula = subst (λ (s : List ℕ). formula (set (set s (2 * c.args.self.now.count) c.args.self.now.used) (2 * c.args.self.now.count + 1) (c.args.self.now.used + length xs)) c.loop-place.self.words.now (c.args.self.now.count + 1) ≡ formula c.args.self.now.spans.now c.args.self.now.words.now c.args.self.now.count ++ (xs ∷ [])) same (added_formula c.args.variables xs _ _ _ _ _ c.requires known spans words small copied);
           count = refl;
           used = refl;
-          spans_size = simp length-set (ap length (sym same));
-          words_size = copied.long;
         },
       );
       spans-named = ap (λ x. x.ghost_name) c.loop-place.invariant.1;

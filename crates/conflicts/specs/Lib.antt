@@ -1,1 +1,0 @@
--- No definitions of its own: the contracts cite those of the crates below.

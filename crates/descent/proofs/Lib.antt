@@ -1,2 +1,0 @@
--- variables are settled one by one
-pub mod Settling

@@ -1,2 +1,0 @@
--- First models.
-pub mod Firsts

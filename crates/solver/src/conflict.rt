@@ -1,0 +1,278 @@
+// What a conflict teaches: a clause is learned from it, the trail goes back to where the clause
+// implies a literal, and the clause is kept and watched. Where there is no clause to be had, or no
+// room for one, the last decision is turned round.
+ghost use Rattle.std.specs.Prelude.{◌≡◌, ◌/◌, ◌<◌, ◌≤◌, true, false, length};
+ghost use Rattle.clauses.specs.Formulas.{Assignment, Models};
+ghost use Rattle.clauses.specs.Stores.{formula_of, StoredS, SoundS};
+ghost use Rattle.trail.specs.Trails.{Good, Jammed};
+ghost use Rattle.propagation.specs.Looking.{Caused};
+ghost use Rattle.analysis.specs.Marking.{NotedA, Rooted};
+ghost use Rattle.order.specs.Orders.{Ordered};
+ghost use Rattle.learning.specs.Turning.{Known, Follows, Fallen};
+
+use analysis::Analysis;
+use clauses::{Store, negated};
+use learning::{Turn, decision_above, go_back, keep};
+use order::Order;
+use propagation::{Causes, Watches};
+use trail::Trail;
+
+// The place of the first decision, or the trail's length.
+pub fn first_decision(trail: &Trail) -> usize
+    requires { trail.now.len ≤ length trail.now.marks.now }
+    ensures rooted { Rooted trail.now.marks.now result }
+    ensures low { result ≤ trail.now.len }
+{
+    for place in 0..trail.len {
+        if trail.marks[place] == 1 {
+            return place;
+        }
+    }
+    trail.len
+}
+
+// Gives the variables from a place of the trail on back to the order, and notes their values, which
+// are tried first the next time: 1 true, 0 false.
+pub fn release(trail: &Trail, order: &mut Order, phases: &mut [u32], decided: usize, from: usize)
+    requires long { trail.now.len ≤ length trail.now.literals.now }
+    requires ordered { Ordered (length order.old.scores.now) order.old }
+    ensures ordered { Ordered (length order.new.scores.now) order.new }
+{
+    for place in from..trail.len {
+        let literal = trail.literals[place];
+        let variable = (literal / 2) as usize;
+        if variable < phases.len() {
+            phases[variable] = 1 - literal % 2;
+        }
+        if variable < decided && variable < order.scores.len() {
+            order.insert(literal / 2);
+        }
+    }
+}
+
+// Makes the variables that a conflict met more active.
+fn bump_met(analysis: &Analysis, order: &mut Order)
+    requires room { analysis.now.count ≤ length analysis.now.touched.now }
+    requires ordered { Ordered (length order.old.scores.now) order.old }
+    ensures ordered { Ordered (length order.new.scores.now) order.new }
+{
+    for index in 0..analysis.count {
+        let variable = analysis.touched[index];
+        if (variable as usize) < order.scores.len() {
+            order.bump(variable);
+        }
+    }
+    order.decay();
+}
+
+// The literal of a clause that stands highest on the trail, but for one; or that one.
+fn highest(variables: usize, causes: &Causes, clause: &[u32], literal: u32) -> u32
+    requires causes { Caused variables causes.now }
+    requires known { Known variables clause.now }
+{
+    let mut found = literal;
+    let mut place = 0;
+    for index in 0..clause.len() {
+        let other = clause[index];
+        let standing = causes.places[(other / 2) as usize];
+        if other != literal && (found == literal || standing > place) {
+            found = other;
+            place = standing;
+        }
+    }
+    found
+}
+
+// Keeps a clause that follows and has it watched. Its number plus one, or 0 where there is no room.
+fn watch_kept(
+    variables: usize,
+    watches: &mut Watches,
+    problem: &Store,
+    learned: &mut Store,
+    base: usize,
+    clause: &[u32],
+    one: u32,
+    other: u32,
+) -> u32
+    requires learned { SoundS (formula_of problem.now) variables learned.old }
+    requires follows { Follows (formula_of problem.now) clause.now }
+    ensures learned { SoundS (formula_of problem.now) variables learned.new }
+{
+    let count = learned.count;
+    if base >= 0x4000_0000 || count >= 0x3fff_ffff {
+        return 0;
+    }
+    if !keep(learned, variables, problem, clause) {
+        return 0;
+    }
+    let number = (base + count) as u32;
+    watches.attach(number, one, other);
+    number + 1
+}
+
+// The level of the literal before the last one.
+pub fn level_before(trail: &Trail, variables: usize, causes: &Causes, problem: &Store) -> u32
+    requires good { Good (formula_of problem.now) variables trail.now }
+    requires causes { Caused variables causes.now }
+{
+    if trail.len < 2 {
+        return 0;
+    }
+    causes.levels[(trail.literals[trail.len - 2] / 2) as usize]
+}
+
+// Notes why the last literal of the trail stands there. Its level.
+pub fn settle(
+    trail: &Trail,
+    variables: usize,
+    causes: &mut Causes,
+    problem: &Store,
+    reason: u32,
+) -> u32
+    requires good { Good (formula_of problem.now) variables trail.now }
+    requires causes { Caused variables causes.old }
+    requires few { variables < 2147483647 }
+    ensures causes { Caused variables causes.new }
+{
+    let level = level_before(trail, variables, causes, problem);
+    if trail.len > 0 {
+        let last = trail.len - 1;
+        causes.note(
+            (trail.literals[last] / 2) as usize,
+            reason,
+            level,
+            last as u32,
+        );
+    }
+    level
+}
+
+// Turns the last decision round; false where there is none, and so no model.
+pub fn turn_round(trail: &mut Trail, variables: usize, causes: &mut Causes, problem: &Store) -> bool
+    requires good { Good (formula_of problem.now) variables trail.old }
+    requires jammed { Jammed (formula_of problem.now) trail.old }
+    requires causes { Caused variables causes.old }
+    requires few { variables < 2147483647 }
+    ensures fallen { result ≡ true → Fallen (formula_of problem.now) variables trail.old trail.new }
+    ensures none { result ≡ false → (α : Assignment) → Models (formula_of problem.now) α → ⊥ }
+    ensures causes { Caused variables causes.new }
+{
+    if !trail.flip(problem, variables) {
+        return false;
+    }
+    settle(trail, variables, causes, problem, 0);
+    true
+}
+
+// Goes back by a clause that follows, and keeps it; false where there is no model.
+fn go_on(
+    trail: &mut Trail,
+    variables: usize,
+    causes: &mut Causes,
+    watches: &mut Watches,
+    order: &mut Order,
+    phases: &mut [u32],
+    problem: &Store,
+    learned: &mut Store,
+    base: usize,
+    decided: usize,
+    clause: &[u32],
+    place: usize,
+) -> bool
+    requires good { Good (formula_of problem.now) variables trail.old }
+    requires jammed { Jammed (formula_of problem.now) trail.old }
+    requires learned { SoundS (formula_of problem.now) variables learned.old }
+    requires causes { Caused variables causes.old }
+    requires ordered { Ordered (length order.old.scores.now) order.old }
+    requires known { Known variables clause.now }
+    requires follows { Follows (formula_of problem.now) clause.now }
+    requires place { place < trail.old.len }
+    requires few { variables < 2147483647 }
+    ensures fallen { result ≡ true → Fallen (formula_of problem.now) variables trail.old trail.new }
+    ensures none { result ≡ false → (α : Assignment) → Models (formula_of problem.now) α → ⊥ }
+    ensures learned { SoundS (formula_of problem.now) variables learned.new }
+    ensures causes { Caused variables causes.new }
+    ensures ordered { Ordered (length order.new.scores.now) order.new }
+{
+    let literal = negated(trail.literals[place]);
+    let other = highest(variables, causes, clause, literal);
+    let decision = decision_above(trail, variables, causes, problem, clause, literal);
+    release(trail, order, phases, decided, decision);
+    match go_back(trail, variables, causes, problem, clause, decision, place) {
+        Turn::End => false,
+        Turn::Flip => {
+            settle(trail, variables, causes, problem, 0);
+            true
+        }
+        Turn::Jump => {
+            let reason = watch_kept(
+                variables, watches, problem, learned, base, clause, literal, other,
+            );
+            settle(trail, variables, causes, problem, reason);
+            true
+        }
+    }
+}
+
+// Learns from a clause that is false, given by its number; false where there is no model.
+pub fn learn(
+    trail: &mut Trail,
+    variables: usize,
+    causes: &mut Causes,
+    watches: &mut Watches,
+    analysis: &mut Analysis,
+    order: &mut Order,
+    phases: &mut [u32],
+    problem: &Store,
+    learned: &mut Store,
+    base: usize,
+    decided: usize,
+    level: u32,
+    conflict: u32,
+) -> bool
+    requires good { Good (formula_of problem.now) variables trail.old }
+    requires jammed { Jammed (formula_of problem.now) trail.old }
+    requires stored { StoredS variables problem.now }
+    requires learned { SoundS (formula_of problem.now) variables learned.old }
+    requires base { base ≤ problem.now.count }
+    requires causes { Caused variables causes.old }
+    requires noted { NotedA variables analysis.old }
+    requires ordered { Ordered (length order.old.scores.now) order.old }
+    requires few { variables < 2147483647 }
+    ensures fallen { result ≡ true → Fallen (formula_of problem.now) variables trail.old trail.new }
+    ensures none { result ≡ false → (α : Assignment) → Models (formula_of problem.now) α → ⊥ }
+    ensures learned { SoundS (formula_of problem.now) variables learned.new }
+    ensures causes { Caused variables causes.new }
+    ensures noted { NotedA variables analysis.new }
+    ensures ordered { Ordered (length order.new.scores.now) order.new }
+{
+    analysis.clear(variables);
+    let root = first_decision(trail);
+    let Some(place) = analysis.analyze(
+        trail, variables, causes, problem, learned, base, root, level, conflict,
+    ) else {
+        return turn_round(trail, variables, causes, problem);
+    };
+    bump_met(analysis, order);
+    if !analysis.minimize(trail, variables, causes, problem, learned, base, root) {
+        return turn_round(trail, variables, causes, problem);
+    }
+    if !analysis.collect(trail, variables, problem) {
+        return turn_round(trail, variables, causes, problem);
+    }
+    let size = analysis.size;
+    go_on(
+        trail,
+        variables,
+        causes,
+        watches,
+        order,
+        phases,
+        problem,
+        learned,
+        base,
+        decided,
+        &analysis.buffer[0..size],
+        place,
+    )
+}

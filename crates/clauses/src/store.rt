@@ -47,6 +47,8 @@ impl Store<'_> {
         ensures added { AddedIf variables clause.now self.old self.new result }
         ensures spans_named { self.new.spans.ghost_name ≡ self.old.spans.ghost_name }
         ensures words_named { self.new.words.ghost_name ≡ self.old.words.ghost_name }
+        ensures spans_size { length self.new.spans.now ≡ length self.old.spans.now }
+        ensures words_size { length self.new.words.now ≡ length self.old.words.now }
     {
         if !all_known(clause, variables) {
             return false;

@@ -28,7 +28,7 @@ pub enum Kind {
     OfSentence,
 }
 
-#[cycle(expression_extent_operand_extent_pair_extent_sentence_extent)]
+#[cycle(extent)]
 pub fn expression_extent(bytes: &[u8], at: usize, scope: Scope) -> Option<Extent>
     ensures { ExtentE scope bytes.now at result }
 {
@@ -67,7 +67,7 @@ pub fn expression_extent(bytes: &[u8], at: usize, scope: Scope) -> Option<Extent
     }
 }
 
-#[cycle(expression_extent_operand_extent_pair_extent_sentence_extent)]
+#[cycle(extent)]
 pub fn sentence_extent(bytes: &[u8], at: usize, scope: Scope) -> Option<Extent>
     ensures { ExtentS scope bytes.now at result }
 {
@@ -95,7 +95,7 @@ pub fn sentence_extent(bytes: &[u8], at: usize, scope: Scope) -> Option<Extent>
     }
 }
 
-#[cycle(expression_extent_operand_extent_pair_extent_sentence_extent)]
+#[cycle(extent)]
 fn operand_extent(bytes: &[u8], at: usize, scope: Scope, kind: Kind) -> Option<Extent>
     ensures { OperandExtent kind scope bytes.now at result }
 {
@@ -106,7 +106,7 @@ fn operand_extent(bytes: &[u8], at: usize, scope: Scope, kind: Kind) -> Option<E
 }
 
 // Two operands, one after the other.
-#[cycle(expression_extent_operand_extent_pair_extent_sentence_extent)]
+#[cycle(extent)]
 fn pair_extent(bytes: &[u8], at: usize, scope: Scope, kind: Kind) -> Option<Extent>
     ensures { PairExtent kind scope bytes.now at result }
 {

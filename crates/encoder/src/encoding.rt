@@ -53,7 +53,7 @@ fn first_input(relation: usize, things: usize) -> usize
     1 + relation * (things * things)
 }
 
-#[cycle(expression_table_pair_tables)]
+#[cycle(tables)]
 fn expression_table(
     circuit: &mut Circuit,
     bytes: &[u8],
@@ -120,7 +120,7 @@ fn expression_table(
     }
 }
 
-#[cycle(expression_table_pair_tables)]
+#[cycle(tables)]
 fn pair_tables(
     circuit: &mut Circuit,
     bytes: &[u8],
@@ -146,7 +146,7 @@ fn pair_tables(
     })
 }
 
-#[cycle(for_every_sentence_literal)]
+#[cycle(literals)]
 fn sentence_literal(
     circuit: &mut Circuit,
     bytes: &[u8],
@@ -216,7 +216,7 @@ fn sentence_literal(
 }
 
 // The sentence that is written at a place, of every thing.
-#[cycle(for_every_sentence_literal)]
+#[cycle(literals)]
 fn for_every(
     circuit: &mut Circuit,
     bytes: &[u8],

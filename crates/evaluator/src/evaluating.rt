@@ -63,7 +63,7 @@ pub fn extended(spoken: Environment, thing: usize, things: usize) -> Environment
     }
 }
 
-#[cycle(expression_value_pair_values)]
+#[cycle(values)]
 fn expression_value(bytes: &[u8], at: usize, picture: &Packed, spoken: Environment) -> Option<Value>
     requires { (FitsP picture.now) × (Sees picture.now.things spoken) }
     ensures { ValueSays picture.now spoken bytes.now at result }
@@ -117,7 +117,7 @@ fn expression_value(bytes: &[u8], at: usize, picture: &Packed, spoken: Environme
     }
 }
 
-#[cycle(expression_value_pair_values)]
+#[cycle(values)]
 fn pair_values(bytes: &[u8], at: usize, picture: &Packed, spoken: Environment) -> Option<Values>
     requires { (FitsP picture.now) × (Sees picture.now.things spoken) }
     ensures { ValuesSay picture.now spoken bytes.now at result }
@@ -131,7 +131,7 @@ fn pair_values(bytes: &[u8], at: usize, picture: &Packed, spoken: Environment) -
     })
 }
 
-#[cycle(for_every_sentence_truth)]
+#[cycle(truths)]
 fn sentence_truth(bytes: &[u8], at: usize, picture: &Packed, spoken: Environment) -> Option<Truth>
     requires { (FitsP picture.now) × (Sees picture.now.things spoken) }
     ensures { TruthSays picture.now spoken bytes.now at result }
@@ -187,7 +187,7 @@ fn sentence_truth(bytes: &[u8], at: usize, picture: &Packed, spoken: Environment
 }
 
 // Whether the sentence that is written at a place holds of every thing.
-#[cycle(for_every_sentence_truth)]
+#[cycle(truths)]
 fn for_every(bytes: &[u8], at: usize, picture: &Packed, spoken: Environment) -> Option<bool>
     requires { (FitsP picture.now) × ((Sees picture.now.things spoken) × (spoken.count < 4)) }
     ensures { EverySaysIf picture.now spoken bytes.now at result }

@@ -42,19 +42,19 @@ module _ (α : Assignment) where
   models_fewer f c m = let n = length_push f c in ((λ k h. subst (Satisfies α) (get_or_append_left f (c ∷ []) [] k h) (m k (omega arith))), subst (Satisfies α) (get_or_push f c [] (length f) refl) (m (length f) (omega arith)))
 
 -- a clause that a store was asked to take
-pub added_writes : (v : ℕ) (c : List ℕ) (s t : Store) (q : Assignment → Bool) → ((j : ℕ) → j < length c → get_or c j 0 / 2 < v) → ((α : Assignment) → satisfied α c ≡ q α) → (r : Bool) → AddedIf v c s t r → WritesIf v s 1 (length c) (λ α. q α ≡ true) t r
-added_writes v c s t q known e true a =
+pub added_writes : (v : ℕ) (c : List ℕ) (s t : Store) (q : Assignment → Bool) → ((j : ℕ) → j < length c → get_or c j 0 / 2 < v) → ((α : Assignment) → satisfied α c ≡ q α) → (r : Bool) → AddedIf v c s t r → length t.spans.now ≡ length s.spans.now → length t.words.now ≡ length s.words.now → WritesIf v s 1 (length c) (λ α. q α ≡ true) t r
+added_writes v c s t q known e true a spans words =
     let d = a.1 in
     record {
       stored = d.stored;
-      spans_size = d.spans_size;
-      words_size = d.words_size;
+      spans_size = spans;
+      words_size = words;
       count = d.count;
       used = d.used;
       says = λ α m. (let p = models_fewer α (formula_of s) c (subst (λ (f : List (List ℕ)). Models f α) d.formula m) in (p.0, sym (e α) ∙ is_satisfied α c p.1));
       means = λ α m p. subst (λ (f : List (List ℕ)). Models f α) (sym d.formula) (models_more α (formula_of s) c m (satisfies α c (e α ∙ p)));
     }
-added_writes v c s t q known e false a = λ room. a.0 (known, room.spans, room.words, room.small)
+added_writes v c s t q known e false a _ _ = λ room. a.0 (known, room.spans, room.words, room.small)
 
 or_false : (b : Bool) → (b || false) ≡ b
 or_false true = refl

@@ -14,14 +14,14 @@ second_small c =
     let b = swapped_small c.args.one c.args.other c.args.things c.args.place c.requires.inside.0 c.requires.inside.1 in
     omega (arith, c.swapped-second.ensures, c.requires.few)
 
-pub overflow-add-result : goal.overflow-add-result
-overflow-add-result c = omega (arith, first_small c)
+pub overflow_add-result : goal.overflow_add-result
+overflow_add-result c = omega (arith, first_small c)
 
-pub overflow-mul-result-2 : goal.overflow-mul-result-2
-overflow-mul-result-2 c = omega (arith, row_small _ c.args.things (first_small c) c.requires.few)
+pub overflow_mul-result-2 : goal.overflow_mul-result-2
+overflow_mul-result-2 c = omega (arith, row_small _ c.args.things (first_small c) c.requires.few)
 
-pub overflow-add-result-2 : goal.overflow-add-result-2
-overflow-add-result-2 c = omega (arith, row_small _ c.args.things (first_small c) c.requires.few, second_small c)
+pub overflow_add-result-2 : goal.overflow_add-result-2
+overflow_add-result-2 c = omega (arith, row_small _ c.args.things (first_small c) c.requires.few, second_small c)
 
 pub returns : goal.returns
 unfolding source

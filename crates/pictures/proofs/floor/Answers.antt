@@ -13,8 +13,8 @@ power_small m k p e h l =
 pub loop-factor-init : goal.loop-factor-init
 loop-factor-init c = sym (pow-zero (c.args.most + 1))
 
-pub overflow-mul-power : goal.overflow-mul-power
-overflow-mul-power c =
+pub overflow_mul-power : goal.overflow_mul-power
+overflow_mul-power c =
     let b = power_small c.args.most c.loop-factor.factor c.loop-factor.power c.loop-factor.invariant (omega arith) (omega arith) in
     omega (arith, mul-le c.loop-factor.power (c.args.most + 1) 4782969 9 b (omega arith))
 
@@ -22,17 +22,17 @@ pub loop-factor-preserved : goal.loop-factor-preserved
 loop-factor-preserved c =
     ap (λ (x : ℕ). x * (c.args.most + 1)) c.loop-factor.invariant ∙ sym (pow-suc (c.args.most + 1) c.loop-factor.factor) ∙ ap (λ (x : ℕ). (c.args.most + 1) ^ x) (sym (add-one c.loop-factor.factor))
 
-pub overflow-mul-result : goal.overflow-mul-result
-overflow-mul-result c =
+pub overflow_mul-result : goal.overflow_mul-result
+overflow_mul-result c =
     let b = power_small c.args.most c.loop-factor.factor c.loop-factor.power c.loop-factor.invariant (omega arith) (omega arith) in
     omega (arith, mul-le c.args.bytes c.loop-factor.power 512 4782969 (omega arith) b)
 
-pub overflow-mul-result-2 : goal.overflow-mul-result-2
-overflow-mul-result-2 c =
+pub overflow_mul-result-2 : goal.overflow_mul-result-2
+overflow_mul-result-2 c =
     let b = power_small c.args.most c.loop-factor.factor c.loop-factor.power c.loop-factor.invariant (omega arith) (omega arith) in
     omega (arith, mul-le c.args.bytes c.loop-factor.power 512 4782969 (omega arith) b)
 
-pub overflow-add-result : goal.overflow-add-result
-overflow-add-result c =
+pub overflow_add-result : goal.overflow_add-result
+overflow_add-result c =
     let b = power_small c.args.most c.loop-factor.factor c.loop-factor.power c.loop-factor.invariant (omega arith) (omega arith) in
     omega (arith, mul-le c.args.bytes c.loop-factor.power 512 4782969 (omega arith) b)

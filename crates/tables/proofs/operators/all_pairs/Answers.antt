@@ -7,9 +7,9 @@ use Rattle.tables.proofs.operators.all_pairs.Goals as goal
 pub loop-place-init : goal.loop-place-init
 loop-place-init c = (adds_none c.requires.sound _, upto_none _ _ _ _ _ refl)
 
-pub returns-in-err-table : goal.returns-in-err-table
-returns-in-err-table c =
-    record { adds = adds_on (c.loop-place.place * way_cost c.args.way c.args.things) (way_cost c.args.way c.args.things) _ c.loop-place.invariant.0 c.pair.ensures.adds (cost_last _ _ _ c.loop-place-test.true); came = rw c.from-residual.ensures c.in-err-table.ensures.came }
+pub returns-in_err-table : goal.returns-in_err-table
+returns-in_err-table c =
+    record { adds = adds_on (c.loop-place.place * way_cost c.args.way c.args.things) (way_cost c.args.way c.args.things) _ c.loop-place.invariant.0 c.pair.ensures.adds (cost_last _ _ _ c.loop-place-test.true); came = rw c.from_residual.ensures c.in_err-table.ensures.came }
 
 pub bounds-table-place : goal.bounds-table-place
 bounds-table-place c = omega (arith, square c.args.things c.requires.few)
@@ -17,7 +17,7 @@ bounds-table-place c = omega (arith, square c.args.things c.requires.few)
 pub loop-place-preserved : goal.loop-place-preserved
 loop-place-preserved c = (
   adds_on (c.loop-place.place * way_cost c.args.way c.args.things) (way_cost c.args.way c.args.things) _ c.loop-place.invariant.0 c.pair.ensures.adds (omega (arith, cost_step c.loop-place.place (way_cost c.args.way c.args.things))),
-  upto_put _ _ _ _ c.pair.ensures.adds.grew (omega (arith, square c.args.things c.requires.few)) c.loop-place.invariant.1 c.in-ok-table.ensures.came,
+  upto_put _ _ _ _ c.pair.ensures.adds.grew (omega (arith, square c.args.things c.requires.few)) c.loop-place.invariant.1 c.in_ok-table.ensures.came,
 )
 
 pub returns : goal.returns

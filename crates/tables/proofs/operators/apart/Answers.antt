@@ -16,7 +16,7 @@ pub loop-place-preserved : goal.loop-place-preserved
 loop-place-preserved c = (
   adds_on c.loop-place.place 1 _ c.loop-place.invariant.0 c.gate.ensures.adds (omega arith),
   chain_on c.loop-place.place _ _ _ _ (λ α k. shown α c.args.things c.args.one (k / c.args.things) (k % c.args.things) && not (shown α c.args.things c.args.other (k / c.args.things) (k % c.args.things)))
-      c.gate.ensures.adds.grew c.loop-place.invariant.1 (λ α o. apart_pair α c.args.things c.loop-place.place _ c.args.one c.args.other c.negated.ensures) c.in-ok-found.ensures.came,
+      c.gate.ensures.adds.grew c.loop-place.invariant.1 (λ α o. apart_pair α c.args.things c.loop-place.place _ c.args.one c.args.other c.negated.ensures) c.in_ok-found.ensures.came,
 )
 
 pub returns : goal.returns

@@ -10,12 +10,12 @@ loop-thing-init c = (adds_none c.requires.sound _, via_none _ _ c.requires.one)
 pub loop-thing-preserved : goal.loop-thing-preserved
 loop-thing-preserved c = (
   adds_on (c.loop-thing.thing * (c.args.things * c.args.things)) (c.args.things * c.args.things * 1) _ c.loop-thing.invariant.0 c.all_pairs.ensures.adds (omega (arith, cost_step c.loop-thing.thing (c.args.things * c.args.things), mul-one (c.args.things * c.args.things))),
-  via_on c.args.things c.loop-thing.thing c.args.one c.loop-thing.table c.in-ok-table.table c.all_pairs.ensures.adds.grew c.loop-thing-test.true c.loop-thing.invariant.1 c.in-ok-table.ensures.came,
+  via_on c.args.things c.loop-thing.thing c.args.one c.loop-thing.table c.in_ok-table.table c.all_pairs.ensures.adds.grew c.loop-thing-test.true c.loop-thing.invariant.1 c.in_ok-table.ensures.came,
 )
 
-pub returns-in-err-table : goal.returns-in-err-table
-returns-in-err-table c =
-    record { adds = adds_on (c.loop-thing.thing * (c.args.things * c.args.things)) (c.args.things * c.args.things * 1) _ c.loop-thing.invariant.0 c.all_pairs.ensures.adds (omega (arith, cost_last c.loop-thing.thing c.args.things (c.args.things * c.args.things) c.loop-thing-test.true, mul-one (c.args.things * c.args.things))); came = rw c.from-residual.ensures c.in-err-table.ensures.came }
+pub returns-in_err-table : goal.returns-in_err-table
+returns-in_err-table c =
+    record { adds = adds_on (c.loop-thing.thing * (c.args.things * c.args.things)) (c.args.things * c.args.things * 1) _ c.loop-thing.invariant.0 c.all_pairs.ensures.adds (omega (arith, cost_last c.loop-thing.thing c.args.things (c.args.things * c.args.things) c.loop-thing-test.true, mul-one (c.args.things * c.args.things))); came = rw c.from_residual.ensures c.in_err-table.ensures.came }
 
 pub returns : goal.returns
 returns c =

@@ -17,5 +17,5 @@ pub loop-between-preserved : goal.loop-between-preserved
 loop-between-preserved c = (
   adds_on c.loop-between.between 1 _ c.loop-between.invariant.0 c.gate.ensures.adds (omega arith),
   chain_on c.loop-between.between _ _ _ _ (λ α k. shown α c.args.things c.args.one.now c.args.first k && shown α c.args.things c.args.other.now k c.args.second)
-      c.gate.ensures.adds.grew c.loop-between.invariant.1 (λ α _. join_pair α c.args.things c.args.first c.args.second c.loop-between.between c.args.one.now c.args.other.now) c.in-ok-found.ensures.came,
+      c.gate.ensures.adds.grew c.loop-between.invariant.1 (λ α _. join_pair α c.args.things c.args.first c.args.second c.loop-between.between c.args.one.now c.args.other.now) c.in_ok-found.ensures.came,
 )

@@ -19,5 +19,5 @@ pub loop-second-preserved : goal.loop-second-preserved
 loop-second-preserved c = (
   adds_on c.loop-second.second 1 _ c.loop-second.invariant.0 c.gate.ensures.adds (omega arith),
   chain_on c.loop-second.second _ _ _ _ (λ α k. shown α c.args.things c.args.one.now c.args.first k)
-      c.gate.ensures.adds.grew c.loop-second.invariant.1 (λ α o. lead_pair α c.args.things c.args.first c.loop-second.second c.args.one.now o.top) c.in-ok-found.ensures.came,
+      c.gate.ensures.adds.grew c.loop-second.invariant.1 (λ α o. lead_pair α c.args.things c.args.first c.loop-second.second c.args.one.now o.top) c.in_ok-found.ensures.came,
 )

@@ -1,4 +1,5 @@
 use Rattle.std.proofs.Common.{◌≡◌, ℕ, ◌+◌, ◌*◌, ◌^◌, ◌<◌, ◌≤◌, List, [], ◌∷◌, ◌++◌, length, set, sym, refl, ap, subst, arith}
+use Rattle.std.proofs.Math.ListN.{length-set}
 use Rattle.clauses.specs.Stores.{formula, Stored}
 use Rattle.clauses.proofs.Copies.{Copied, added_formula, added_stored}
 use Rattle.clauses.proofs.store.Store.add.Goals as goal
@@ -9,7 +10,7 @@ returns c =
     let n : c.loop-place.place ≡ length xs = omega arith in
     let copied : Copied xs c.args.self.now.used c.args.self.now.words.now c.loop-place.self.words.now (length xs) = subst (λ (x : ℕ). Copied xs c.args.self.now.used c.args.self.now.words.now c.loop-place.self.words.now x) n c.loop-place.invariant.0 in
     let same : c.args.self.now.spans.now ≡ c.loop-place.self.spans.now = sym (ap (λ r. r.now) c.loop-place.invariant.1) in
-    let known = c.if-not-all-known.ensures.yes refl in
+    let known = c.if-not-all_known.ensures.yes refl in
     let spans : 2 * (c.args.self.now.count + 1) ≤ length c.args.self.now.spans.now = omega arith in
     let words : c.args.self.now.used + length xs ≤ length c.args.self.now.words.now = omega arith in
     let small : c.args.self.now.used + length xs < 2 ^ 32 = omega arith in
@@ -23,6 +24,8 @@ returns c =
           used = refl;
         },
       );
-      spans-named = ap (λ x. x.ghost_name) c.loop-place.invariant.1;
-      words-named = c.loop-place.invariant.2;
+      spans_named = ap (λ x. x.ghost_name) c.loop-place.invariant.1;
+      words_named = c.loop-place.invariant.2;
+      spans_size = simp length-set (ap length (sym same));
+      words_size = copied.long;
     }

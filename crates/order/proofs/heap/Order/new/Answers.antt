@@ -7,7 +7,7 @@ pub returns : goal.returns
 returns c =
     record {
       ordered =
-          heaped_first _ c.clear.new.words c.count-up.new.words c.count-up-2.new.words c.args.decided _ c.requires.few (omega arith) (omega arith) (omega arith) c.requires.within c.clear.ensures c.count-up.ensures.first c.count-up-2.ensures.first
-          (λ k l. c.count-up-2.ensures.rest k l ∙ c.clear-2.ensures k) (score_from_top _ (omega arith));
+          heaped_first _ c.clear.new.words c.count_up.new.words c.count_up-2.new.words c.args.decided _ c.requires.few (omega arith) (omega arith) (omega arith) c.requires.within c.clear.ensures c.count_up.ensures.first c.count_up-2.ensures.first
+          (λ k l. c.count_up-2.ensures.rest k l ∙ c.clear-2.ensures k) (score_from_top _ (omega arith));
       counted = refl;
     }

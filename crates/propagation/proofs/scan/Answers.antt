@@ -10,7 +10,7 @@ use Rattle.propagation.proofs.scan.Goals.{After-fails}
 others : (c : After-fails) → OthersFalse c.args.trail.now.values.now c.args.store.now.words.now (from c.args.store.now.spans.now c.args.clause) (to c.args.store.now.spans.now c.args.clause) c.args.other
 others c =
     subst (λ (i : ℕ). OthersFalse c.args.trail.now.values.now c.args.store.now.words.now i (to c.args.store.now.spans.now c.args.clause) c.args.other) c.from-begin.ensures
-    (subst (λ (e : ℕ). OthersFalse c.args.trail.now.values.now c.args.store.now.words.now c.from-begin.result e c.args.other) c.to-end.ensures c.in-default.ensures)
+    (subst (λ (e : ℕ). OthersFalse c.args.trail.now.values.now c.args.store.now.words.now c.from-begin.result e c.args.other) c.to-end.ensures c.in_default.ensures)
 
 pub returns-then-fails : goal.returns-then-fails
 returns-then-fails c = (eqb-true _ _ (sym c.fails.ensures ∙ c.if-fails.true), others (goal.at.returns-then-fails c).After-fails)

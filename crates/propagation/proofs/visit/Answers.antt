@@ -13,4 +13,4 @@ returns-in-Conflict c =
 pub loop-node-preserved : goal.loop-node-preserved
 loop-node-preserved c =
     let e = c.examine.ensures in
-    record { node = c.link-next.type-inv; good = e.good; falls = λ budget. le_trans (e.falls budget) (c.loop-node.invariant.falls budget); causes = e.causes }
+    record { node = c.link-next.type_inv; good = e.good; falls = λ budget. le_trans (e.falls budget) (c.loop-node.invariant.falls budget); causes = e.causes }

@@ -15,7 +15,7 @@ returns-then-bits-place-gt1 c n8 m8 q l e =
     omega arith
 
 pub loop-place-preserved : goal.loop-place-preserved
-loop-place-preserved c = reading_more c.args.relations c.args.things c.args.bits.now c.loop-place.words c.loop-place.place _ c.spot-at-spot.result (omega arith) c.spot-at-spot.ensures (omega arith) c.put.ensures c.loop-place.invariant
+loop-place-preserved c = reading_more c.args.relations c.args.things c.args.bits.now c.loop-place.words c.loop-place.place _ c.spot_at-spot.result (omega arith) c.spot_at-spot.ensures (omega arith) c.put.ensures c.loop-place.invariant
 
 pub returns : goal.returns
 returns c =

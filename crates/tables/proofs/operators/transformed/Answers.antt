@@ -24,6 +24,6 @@ returns-in-Closure c =
 pub returns-in-Domain : goal.returns-in-Domain
 returns-in-Domain c =
     record {
-      adds = adds_transform c.args.things _ unary.Domain c.in-Domain.is c.all-pairs-in-Domain.ensures.adds;
-      came = came_weaker c.all-pairs-in-Domain.new.circuit _ _ _ (λ t w. shows_is (λ α. made Domain c.args.things (shown α c.args.things c.args.one) (shown α c.args.things c.args.one)) (λ α. transform c.args.operator c.args.things (shown α c.args.things c.args.one)) (λ α i j. transform_is Domain c.args.operator unary.Domain c.args.things _ i j c.in-Domain.is (domain_is _ _ i j)) w) c.all-pairs-in-Domain.ensures.came;
+      adds = adds_transform c.args.things _ unary.Domain c.in-Domain.is c.all_pairs-in-Domain.ensures.adds;
+      came = came_weaker c.all_pairs-in-Domain.new.circuit _ _ _ (λ t w. shows_is (λ α. made Domain c.args.things (shown α c.args.things c.args.one) (shown α c.args.things c.args.one)) (λ α. transform c.args.operator c.args.things (shown α c.args.things c.args.one)) (λ α i j. transform_is Domain c.args.operator unary.Domain c.args.things _ i j c.in-Domain.is (domain_is _ _ i j)) w) c.all_pairs-in-Domain.ensures.came;
     }

@@ -9,5 +9,5 @@ bounds-table-place c = omega (arith, square c.args.things c.requires.few)
 pub loop-place-preserved : goal.loop-place-preserved
 loop-place-preserved c = (
   length-set _ _ _ ∙ c.loop-place.invariant.0,
-  plain_more c.args.plain c.args.things c.loop-place.place c.loop-place.table _ (omega (arith, square c.args.things c.requires.few)) c.loop-place.invariant.0 c.plain-pair.ensures c.loop-place.invariant.1,
+  plain_more c.args.plain c.args.things c.loop-place.place c.loop-place.table _ (omega (arith, square c.args.things c.requires.few)) c.loop-place.invariant.0 c.plain_pair.ensures c.loop-place.invariant.1,
 )

@@ -8,23 +8,23 @@ use Rattle.leaders.proofs.chain.Goals.{then-place-there+in-Some, else-place-ther
 pub loop-place-init : goal.loop-place-init
 loop-place-init c = (chained_none c.args.circuit.now c.args.things c.args.one c.args.other c.requires.sound, omega arith)
 
-pub source-of-there-requires : goal.source-of-there-requires
-source-of-there-requires c =
+pub source_of-there-requires : goal.source_of-there-requires
+source_of-there-requires c =
     let b = bits_few c.args.relations c.args.things c.requires.few.0 c.requires.few.1 in
     let two = c.requires.two in
     record { low = omega arith; few = c.requires.few.1; inside = (omega arith, c.requires.two.1) }
 
-pub bit-at-requires : goal.bit-at-requires
-bit-at-requires c =
+pub bit_at-requires : goal.bit_at-requires
+bit_at-requires c =
     let b = bits_few c.args.relations c.args.things c.requires.few.0 c.requires.few.1 in
     omega arith
 
-pub bit-at-requires-then-place-there : goal.bit-at-requires-then-place-there
-bit-at-requires-then-place-there c =
+pub bit_at-requires-then-place-there : goal.bit_at-requires-then-place-there
+bit_at-requires-then-place-there c =
     let b = bits_few c.args.relations c.args.things c.requires.few.0 c.requires.few.1 in
     let two = c.requires.two in
     let f = source_below c.args.one c.args.other c.args.things (omega arith) c.requires.two.1 c.args.relations c.loop-place.place (omega arith) in
-    omega (arith, c.source-of-there.ensures)
+    omega (arith, c.source_of-there.ensures)
 
 pub link-requires : goal.link-requires
 link-requires c =
@@ -33,12 +33,12 @@ link-requires c =
     let d = c.requires.drawn in
     let two = c.requires.two in
     let f = source_below c.args.one c.args.other c.args.things (omega arith) c.requires.two.1 c.args.relations c.loop-place.place (omega arith) in
-    record { sound = inv.extends.sound; before = inv.gives.low; here = omega (arith, c.bit-at.ensures); there = omega (arith, c.source-of-there.ensures, c.bit-at-then-place-there.ensures) }
+    record { sound = inv.extends.sound; before = inv.gives.low; here = omega (arith, c.bit_at.ensures); there = omega (arith, c.source_of-there.ensures, c.bit_at-then-place-there.ensures) }
 
-pub returns-in-default : goal.returns-in-default
-returns-in-default c =
+pub returns-in_default : goal.returns-in_default
+returns-in_default c =
     chain_broken c.args.circuit.now c.loop-place.circuit c.args.things c.args.one c.args.other c.loop-place.place c.loop-place.smaller c.loop-place.invariant.0
-    c.link.new.circuit c.source-of-there.result c.bit-at.result c.bit-at-then-place-there.result c.source-of-there.ensures c.if-place-there.true c.bit-at.ensures c.bit-at-then-place-there.ensures
+    c.link.new.circuit c.source_of-there.result c.bit_at.result c.bit_at-then-place-there.result c.source_of-there.ensures c.if-place-there.true c.bit_at.ensures c.bit_at-then-place-there.ensures
     c.in-default.ensures.linked c.args.relations c.requires.two.0 c.requires.two.1 (omega arith) c.in-default.ensures
 
 pub loop-place-preserved : goal.loop-place-preserved
@@ -47,12 +47,12 @@ loop-place-preserved c =
       | then-place-there+in-Some w ↦
           chained_is c.args.circuit.now w.link.new.circuit c.if-place-there.circuit c.args.things c.args.one c.args.other (c.loop-place.place + 1) w.in-Some.next c.if-place-there.smaller w.circuit-is w.smaller-is
           (chained_link c.args.circuit.now c.loop-place.circuit c.args.things c.args.one c.args.other c.loop-place.place c.loop-place.smaller c.loop-place.invariant.0
-          w.link.new.circuit c.source-of-there.result w.bit-at.result w.bit-at-then-place-there.result c.source-of-there.ensures w.if-place-there.true w.bit-at.ensures w.bit-at-then-place-there.ensures
+          w.link.new.circuit c.source_of-there.result w.bit_at.result w.bit_at-then-place-there.result c.source_of-there.ensures w.if-place-there.true w.bit_at.ensures w.bit_at-then-place-there.ensures
           w.in-Some.next w.in-Some.ensures)
       | else-place-there w ↦
           chained_is c.args.circuit.now c.loop-place.circuit c.if-place-there.circuit c.args.things c.args.one c.args.other (c.loop-place.place + 1) c.loop-place.smaller c.if-place-there.smaller w.circuit-is w.smaller-is
           (chained_skip c.args.circuit.now c.loop-place.circuit c.args.things c.args.one c.args.other c.loop-place.place c.loop-place.smaller c.loop-place.invariant.0
-          (omega (arith, c.source-of-there.ensures, w.if-place-there.false)))
+          (omega (arith, c.source_of-there.ensures, w.if-place-there.false)))
     ]
 
 pub returns : goal.returns

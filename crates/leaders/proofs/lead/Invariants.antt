@@ -3,4 +3,4 @@ use Rattle.leaders.specs.Leading.{Leads}
 use Rattle.leaders.proofs.lead.Given as goal
 
 abbrev pub invariant-loop-other : goal.invariant-loop-other
-invariant-loop-other l = Leads l.initial.circuit l.relations l.things l.gates-most l.claims-most (λ a b. (a + 1 < b) × (b < l.other)) l.circuit l.apart
+invariant-loop-other l = Leads l.initial.circuit l.relations l.things l.gates_most l.claims_most (λ a b. (a + 1 < b) × (b < l.other)) l.circuit l.apart

@@ -3,4 +3,4 @@ use Rattle.leaders.specs.Leading.{Leads}
 use Rattle.leaders.proofs.lead_apart.Given as goal
 
 abbrev pub invariant-loop-one : goal.invariant-loop-one
-invariant-loop-one l = Leads l.initial.circuit l.relations l.things l.gates-most l.claims-most (λ a b. (b ≡ l.other) × (a < l.one)) l.circuit l.all
+invariant-loop-one l = Leads l.initial.circuit l.relations l.things l.gates_most l.claims_most (λ a b. (b ≡ l.other) × (a < l.one)) l.circuit l.all

@@ -13,7 +13,7 @@ loop-index-preserved c =
       seen = i.seen;
       touched = i.touched;
       count = i.count;
-      collected = collected_more c.args.variables c.args.trail.now.values.now c.args.self.now.seen.now c.args.self.now.touched.now c.loop-index.self.buffer.now c.loop-index.index c.loop-index.self.size c.false-literal.result (c.false-literal.ensures ∙ ap (literal_of c.args.trail.now.values.now) same) (c.requires.noted.known c.loop-index.index c.loop-index-test.true) (omega arith) i.collected;
+      collected = collected_more c.args.variables c.args.trail.now.values.now c.args.self.now.seen.now c.args.self.now.touched.now c.loop-index.self.buffer.now c.loop-index.index c.loop-index.self.size c.false_literal.result (c.false_literal.ensures ∙ ap (literal_of c.args.trail.now.values.now) same) (c.requires.noted.known c.loop-index.index c.loop-index-test.true) (omega arith) i.collected;
     }
 
 pub returns : goal.returns

@@ -14,68 +14,68 @@ use Rattle.evaluator.proofs.evaluating.+truths.Goals as goal
 pub sentence_truth-returns-in_err-head : goal.sentence_truth-returns-in_err-head
 sentence_truth-returns-in_err-head t c = rw c.from_residual.ensures (no_sentence _ _ c.args.bytes.now c.args.at _ c.in_err-head.ensures)
 
-pub sentence_truth-returns-in_err-both : goal.sentence_truth-returns-in_err-both
-sentence_truth-returns-in_err-both t c =
-    rw c.from_residual-in_err-both.ensures
-    (operator_absent _ _ _ _ _ c.args.bytes.now c.args.at (begins c.args.bytes.now c.args.at _ Within c.in-Within.is c.in_ok-head.ensures) (within_operator _ _) _ _ (λ a n. n) c.in_err-both.ensures)
+pub sentence_truth-returns-in_err-both-in-Within : goal.sentence_truth-returns-in_err-both-in-Within
+sentence_truth-returns-in_err-both-in-Within t c =
+    rw c.from_residual-in_err-both-in-Within.ensures
+    (operator_absent _ _ _ _ _ c.args.bytes.now c.args.at (begins c.args.bytes.now c.args.at _ Within c.in-Within.is c.in_ok-head.ensures) (within_operator _ _) _ _ (λ a n. n) c.in_err-both-in-Within.ensures)
 
-pub sentence_truth-returns-in_err-value : goal.sentence_truth-returns-in_err-value
-sentence_truth-returns-in_err-value t c =
-    rw c.from_residual-in_err-value.ensures
-    (operator_absent _ _ _ _ _ c.args.bytes.now c.args.at (begins c.args.bytes.now c.args.at _ Nonempty c.in-Nonempty.is c.in_ok-head.ensures) (nonempty_operator _ _) _ _ (λ a n. n) c.in_err-value.ensures)
+pub sentence_truth-returns-in_err-value-in-Nonempty : goal.sentence_truth-returns-in_err-value-in-Nonempty
+sentence_truth-returns-in_err-value-in-Nonempty t c =
+    rw c.from_residual-in_err-value-in-Nonempty.ensures
+    (operator_absent _ _ _ _ _ c.args.bytes.now c.args.at (begins c.args.bytes.now c.args.at _ Nonempty c.in-Nonempty.is c.in_ok-head.ensures) (nonempty_operator _ _) _ _ (λ a n. n) c.in_err-value-in-Nonempty.ensures)
 
-pub sentence_truth-returns-in_err-inner : goal.sentence_truth-returns-in_err-inner
-sentence_truth-returns-in_err-inner t c =
-    rw c.from_residual-in_err-inner.ensures
-    (operator_absent _ _ _ _ _ c.args.bytes.now c.args.at (begins c.args.bytes.now c.args.at _ Not c.in-Not.is c.in_ok-head.ensures) (negation_operator _ _) _ _ (λ a n. n) c.in_err-inner.ensures)
+pub sentence_truth-returns-in_err-inner-in-Not : goal.sentence_truth-returns-in_err-inner-in-Not
+sentence_truth-returns-in_err-inner-in-Not t c =
+    rw c.from_residual-in_err-inner-in-Not.ensures
+    (operator_absent _ _ _ _ _ c.args.bytes.now c.args.at (begins c.args.bytes.now c.args.at _ Not c.in-Not.is c.in_ok-head.ensures) (negation_operator _ _) _ _ (λ a n. n) c.in_err-inner-in-Not.ensures)
 
-pub sentence_truth-returns-in_err-one : goal.sentence_truth-returns-in_err-one
-sentence_truth-returns-in_err-one t c =
-    rw c.from_residual-in_err-one.ensures
+pub sentence_truth-returns-in_err-one-in-Both : goal.sentence_truth-returns-in_err-one-in-Both
+sentence_truth-returns-in_err-one-in-Both t c =
+    rw c.from_residual-in_err-one-in-Both.ensures
     (operator_absent _ _ _ _ _ c.args.bytes.now c.args.at (begins c.args.bytes.now c.args.at _ Both c.in-Both.is c.in_ok-head.ensures) (both_operator _ _) _ _ (λ a n. n)
-    (pair_absent _ _ c.args.bytes.now _ _ (λ x. ⊥) (λ a b n. n) c.in_err-one.ensures))
+    (pair_absent _ _ c.args.bytes.now _ _ (λ x. ⊥) (λ a b n. n) c.in_err-one-in-Both.ensures))
 
-pub sentence_truth-returns-in_err-other : goal.sentence_truth-returns-in_err-other
-sentence_truth-returns-in_err-other t c =
-    rw c.from_residual-in_err-other.ensures
+pub sentence_truth-returns-in_err-other-in-Both : goal.sentence_truth-returns-in_err-other-in-Both
+sentence_truth-returns-in_err-other-in-Both t c =
+    rw c.from_residual-in_err-other-in-Both.ensures
     (operator_absent _ _ _ _ _ c.args.bytes.now c.args.at (begins c.args.bytes.now c.args.at _ Both c.in-Both.is c.in_ok-head.ensures) (both_operator _ _) _ _ (λ a n. n)
-    (pair_half _ _ c.args.bytes.now _ unique_s c.in_ok-one.one.end _ _ (λ x. ⊥) (λ a b q n. n) c.in_ok-one.ensures c.in_err-other.ensures))
+    (pair_half _ _ c.args.bytes.now _ unique_s c.in_ok-one-in-Both.one.end _ _ (λ x. ⊥) (λ a b q n. n) c.in_ok-one-in-Both.ensures c.in_err-other-in-Both.ensures))
 
-pub sentence_truth-returns-in_err-body : goal.sentence_truth-returns-in_err-body
-sentence_truth-returns-in_err-body t c =
-    rw c.from_residual-in_err-body.ensures
-    (operator_absent _ _ _ _ _ c.args.bytes.now c.args.at (begins c.args.bytes.now c.args.at _ ForEvery c.in-ForEvery.is c.in_ok-head.ensures) (for_every_operator _ _ c.if-spoken.true) _ _ (λ a n. n) c.in_err-body.ensures)
+pub sentence_truth-returns-in_err-body-in-ForEvery : goal.sentence_truth-returns-in_err-body-in-ForEvery
+sentence_truth-returns-in_err-body-in-ForEvery t c =
+    rw c.from_residual-in_err-body-in-ForEvery.ensures
+    (operator_absent _ _ _ _ _ c.args.bytes.now c.args.at (begins c.args.bytes.now c.args.at _ ForEvery c.in-ForEvery.is c.in_ok-head.ensures) (for_every_operator _ _ c.if-spoken.true) _ _ (λ a n. n) c.in_err-body-in-ForEvery.ensures)
 
-pub sentence_truth-returns-in_err-holds : goal.sentence_truth-returns-in_err-holds
-sentence_truth-returns-in_err-holds t c =
-    rw c.from_residual-in_err-holds.ensures
-    (operator_absent _ _ _ _ _ c.args.bytes.now c.args.at (begins c.args.bytes.now c.args.at _ ForEvery c.in-ForEvery.is c.in_ok-head.ensures) (for_every_operator _ _ c.if-spoken.true) _ _ (λ a n. n) c.in_err-holds.ensures)
+pub sentence_truth-returns-in_err-holds-in-ForEvery : goal.sentence_truth-returns-in_err-holds-in-ForEvery
+sentence_truth-returns-in_err-holds-in-ForEvery t c =
+    rw c.from_residual-in_err-holds-in-ForEvery.ensures
+    (operator_absent _ _ _ _ _ c.args.bytes.now c.args.at (begins c.args.bytes.now c.args.at _ ForEvery c.in-ForEvery.is c.in_ok-head.ensures) (for_every_operator _ _ c.if-spoken.true) _ _ (λ a n. n) c.in_err-holds-in-ForEvery.ensures)
 
-pub sentence_truth-returns-in_ok-both : goal.sentence_truth-returns-in_ok-both
-sentence_truth-returns-in_ok-both t c =
-    operator_stands _ _ _ _ _ c.args.bytes.now c.args.at (begins c.args.bytes.now c.args.at _ Within c.in-Within.is c.in_ok-head.ensures) (within_operator _ _) c.in_ok-both.both.end _ _
-    (within_holds c.args.picture.now (seen c.args.spoken) c.in_ok-both.both.one c.in_ok-both.both.other c.within.result c.within.ensures) c.in_ok-both.ensures
+pub sentence_truth-returns-in_ok-both-in-Within : goal.sentence_truth-returns-in_ok-both-in-Within
+sentence_truth-returns-in_ok-both-in-Within t c =
+    operator_stands _ _ _ _ _ c.args.bytes.now c.args.at (begins c.args.bytes.now c.args.at _ Within c.in-Within.is c.in_ok-head.ensures) (within_operator _ _) c.in_ok-both-in-Within.both.end _ _
+    (within_holds c.args.picture.now (seen c.args.spoken) c.in_ok-both-in-Within.both.one c.in_ok-both-in-Within.both.other c.within.result c.within.ensures) c.in_ok-both-in-Within.ensures
 
-pub sentence_truth-returns-in_ok-value : goal.sentence_truth-returns-in_ok-value
-sentence_truth-returns-in_ok-value t c =
-    operator_stands _ _ _ _ _ c.args.bytes.now c.args.at (begins c.args.bytes.now c.args.at _ Nonempty c.in-Nonempty.is c.in_ok-head.ensures) (nonempty_operator _ _) c.in_ok-value.value.end _ _
-    (nonempty_holds c.args.picture.now (seen c.args.spoken) c.in_ok-value.value.word c.nonempty.result c.nonempty.ensures) c.in_ok-value.ensures
+pub sentence_truth-returns-in_ok-value-in-Nonempty : goal.sentence_truth-returns-in_ok-value-in-Nonempty
+sentence_truth-returns-in_ok-value-in-Nonempty t c =
+    operator_stands _ _ _ _ _ c.args.bytes.now c.args.at (begins c.args.bytes.now c.args.at _ Nonempty c.in-Nonempty.is c.in_ok-head.ensures) (nonempty_operator _ _) c.in_ok-value-in-Nonempty.value.end _ _
+    (nonempty_holds c.args.picture.now (seen c.args.spoken) c.in_ok-value-in-Nonempty.value.word c.nonempty.result c.nonempty.ensures) c.in_ok-value-in-Nonempty.ensures
 
-pub sentence_truth-returns-in_ok-inner : goal.sentence_truth-returns-in_ok-inner
-sentence_truth-returns-in_ok-inner t c =
-    operator_stands _ _ _ _ _ c.args.bytes.now c.args.at (begins c.args.bytes.now c.args.at _ Not c.in-Not.is c.in_ok-head.ensures) (negation_operator _ _) c.in_ok-inner.inner.end _ _
-    (λ a q. ap not q) c.in_ok-inner.ensures
+pub sentence_truth-returns-in_ok-inner-in-Not : goal.sentence_truth-returns-in_ok-inner-in-Not
+sentence_truth-returns-in_ok-inner-in-Not t c =
+    operator_stands _ _ _ _ _ c.args.bytes.now c.args.at (begins c.args.bytes.now c.args.at _ Not c.in-Not.is c.in_ok-head.ensures) (negation_operator _ _) c.in_ok-inner-in-Not.inner.end _ _
+    (λ a q. ap not q) c.in_ok-inner-in-Not.ensures
 
-pub sentence_truth-returns-in_ok-other : goal.sentence_truth-returns-in_ok-other
-sentence_truth-returns-in_ok-other t c =
-    operator_stands _ _ _ _ _ c.args.bytes.now c.args.at (begins c.args.bytes.now c.args.at _ Both c.in-Both.is c.in_ok-head.ensures) (both_operator _ _) c.in_ok-other.other.end _ _ (λ a q. q)
-    (pair_stands _ _ c.args.bytes.now _ c.in_ok-one.one.end c.in_ok-other.other.end _ _ _ (λ a b q r. let f : c.in_ok-one.one.holds ≡ holds c.args.picture.now.things (unpacked c.args.picture.now) (seen c.args.spoken) a = q in let g : c.in_ok-other.other.holds ≡ holds c.args.picture.now.things (unpacked c.args.picture.now) (seen c.args.spoken) b = r in rw (f, g) refl) c.in_ok-one.ensures c.in_ok-other.ensures)
+pub sentence_truth-returns-in_ok-other-in-Both : goal.sentence_truth-returns-in_ok-other-in-Both
+sentence_truth-returns-in_ok-other-in-Both t c =
+    operator_stands _ _ _ _ _ c.args.bytes.now c.args.at (begins c.args.bytes.now c.args.at _ Both c.in-Both.is c.in_ok-head.ensures) (both_operator _ _) c.in_ok-other-in-Both.other.end _ _ (λ a q. q)
+    (pair_stands _ _ c.args.bytes.now _ c.in_ok-one-in-Both.one.end c.in_ok-other-in-Both.other.end _ _ _ (λ a b q r. let f : c.in_ok-one-in-Both.one.holds ≡ holds c.args.picture.now.things (unpacked c.args.picture.now) (seen c.args.spoken) a = q in let g : c.in_ok-other-in-Both.other.holds ≡ holds c.args.picture.now.things (unpacked c.args.picture.now) (seen c.args.spoken) b = r in rw (f, g) refl) c.in_ok-one-in-Both.ensures c.in_ok-other-in-Both.ensures)
 
-pub sentence_truth-returns-in_ok-holds : goal.sentence_truth-returns-in_ok-holds
-sentence_truth-returns-in_ok-holds t c =
-    let body = c.in_ok-body.ensures in
-    operator_stands _ _ _ _ _ c.args.bytes.now c.args.at (begins c.args.bytes.now c.args.at _ ForEvery c.in-ForEvery.is c.in_ok-head.ensures) (for_every_operator _ _ c.if-spoken.true) c.in_ok-body.body.end _ _
-    (λ a q. q) (record { part = body.part; is_fine = body.is_fine; written = body.written; further = body.further; inside = body.inside; says = c.in_ok-holds.ensures body.part _ body.written })
+pub sentence_truth-returns-in_ok-holds-in-ForEvery : goal.sentence_truth-returns-in_ok-holds-in-ForEvery
+sentence_truth-returns-in_ok-holds-in-ForEvery t c =
+    let body = c.in_ok-body-in-ForEvery.ensures in
+    operator_stands _ _ _ _ _ c.args.bytes.now c.args.at (begins c.args.bytes.now c.args.at _ ForEvery c.in-ForEvery.is c.in_ok-head.ensures) (for_every_operator _ _ c.if-spoken.true) c.in_ok-body-in-ForEvery.body.end _ _
+    (λ a q. q) (record { part = body.part; is_fine = body.is_fine; written = body.written; further = body.further; inside = body.inside; says = c.in_ok-holds-in-ForEvery.ensures body.part _ body.written })
 
 pub sentence_truth-returns-else-spoken : goal.sentence_truth-returns-else-spoken
 sentence_truth-returns-else-spoken t c = too_deep _ _ c.args.bytes.now c.args.at _ _ c.in-ForEvery.is c.in_ok-head.ensures c.if-spoken.false

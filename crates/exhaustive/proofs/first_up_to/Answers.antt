@@ -3,7 +3,7 @@ use Rattle.exhaustive.proofs.Passing.{none_more, first_of_all}
 use Rattle.exhaustive.proofs.first_up_to.Goals as goal
 
 pub loop-things-preserved : goal.loop-things-preserved
-loop-things-preserved c = none_more c.args.description.now c.args.relations c.loop-things.things c.loop-things.invariant c.in-default.ensures
+loop-things-preserved c = none_more c.args.description.now c.args.relations c.loop-things.things c.loop-things.invariant c.in_default.ensures
 
 pub returns-in-Some : goal.returns-in-Some
 returns-in-Some c = first_of_all _ _ _ _ _ (omega arith) c.loop-things.invariant c.in-Some.ensures

@@ -39,7 +39,7 @@ pub returns-in_default : goal.returns-in_default
 returns-in_default c =
     chain_broken c.args.circuit.now c.loop-place.circuit c.args.things c.args.one c.args.other c.loop-place.place c.loop-place.smaller c.loop-place.invariant.0
     c.link.new.circuit c.source_of-there.result c.bit_at.result c.bit_at-then-place-there.result c.source_of-there.ensures c.if-place-there.true c.bit_at.ensures c.bit_at-then-place-there.ensures
-    c.in-default.ensures.linked c.args.relations c.requires.two.0 c.requires.two.1 (omega arith) c.in-default.ensures
+    c.in_default.ensures.linked c.args.relations c.requires.two.0 c.requires.two.1 (omega arith) c.in_default.ensures
 
 pub loop-place-preserved : goal.loop-place-preserved
 loop-place-preserved c =

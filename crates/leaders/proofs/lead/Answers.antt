@@ -5,10 +5,10 @@ use Rattle.leaders.proofs.lead.Goals as goal
 
 pub loop-other-preserved : goal.loop-other-preserved
 loop-other-preserved c =
-    leads_on c.args.relations c.args.things c.args.gates-most c.args.claims-most _ _ _ c.lead-adjacent-adjacent.new.circuit c.loop-other.circuit c.lead-apart-added.new.circuit c.loop-other.apart c.lead-apart-added.result c.loop-other.invariant c.lead-apart-added.ensures
+    leads_on c.args.relations c.args.things c.args.gates_most c.args.claims_most _ _ _ c.lead_adjacent-adjacent.new.circuit c.loop-other.circuit c.lead_apart-added.new.circuit c.loop-other.apart c.lead_apart-added.result c.loop-other.invariant c.lead_apart-added.ensures
     (λ a b ab bm pair. elim (cases_eq b c.loop-other.other) [ inl e ↦ inr (e, pair.0) | inr e ↦ inl (pair.0, omega (arith, pair.1)) ])
 
 pub returns : goal.returns
 returns c =
-    leads_on c.args.relations c.args.things c.args.gates-most c.args.claims-most _ _ _ c.args.circuit.now c.lead-adjacent-adjacent.new.circuit c.loop-other.circuit c.lead-adjacent-adjacent.result c.loop-other.apart c.lead-adjacent-adjacent.ensures c.loop-other.invariant
+    leads_on c.args.relations c.args.things c.args.gates_most c.args.claims_most _ _ _ c.args.circuit.now c.lead_adjacent-adjacent.new.circuit c.loop-other.circuit c.lead_adjacent-adjacent.result c.loop-other.apart c.lead_adjacent-adjacent.ensures c.loop-other.invariant
     (λ a b ab bm pair. elim (cases_eq b (a + 1)) [ inl e ↦ inl e | inr e ↦ inr (omega arith, omega arith) ])

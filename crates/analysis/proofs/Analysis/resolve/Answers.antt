@@ -7,5 +7,5 @@ returns c =
     let e = c.absorb_clause.ensures in
     record {
       noted = unmarked_noted _ _ _ _ _ e.noted c.requires.known;
-      apart = λ _. apart_resolved _ c.args.variables _ _ _ _ c.requires.holds e.grown c.requires.apart (c.if-not-absorb-clause.ensures.absorbed refl);
+      apart = λ _. apart_resolved _ c.args.variables _ _ _ _ c.requires.holds e.grown c.requires.apart (c.if-not-absorb_clause.ensures.absorbed refl);
     }

@@ -17,96 +17,96 @@ pub sentence_literal-returns-in_err-head : goal.sentence_literal-returns-in_err-
 sentence_literal-returns-in_err-head t c =
     record { grown = grown_not _ c.requires.sound; says = rw c.from_residual.ensures (no_sentence _ _ c.args.bytes.now c.args.at _ c.in_err-head.ensures) }
 
-pub sentence_literal-returns-in_err-both : goal.sentence_literal-returns-in_err-both
-sentence_literal-returns-in_err-both t c =
-    record { grown = c.pair_tables.ensures.grown; says = rw c.from_residual-in_err-both.ensures (operator_absent _ _ _ _ _ c.args.bytes.now c.args.at (begins c.args.bytes.now c.args.at _ Within c.in-Within.is c.in_ok-head.ensures) (within_operator _ _) _ _ (λ a n. omega (arith, n)) c.in_err-both.ensures.says) }
+pub sentence_literal-returns-in_err-both-in-Within : goal.sentence_literal-returns-in_err-both-in-Within
+sentence_literal-returns-in_err-both-in-Within t c =
+    record { grown = c.pair_tables.ensures.grown; says = rw c.from_residual-in_err-both-in-Within.ensures (operator_absent _ _ _ _ _ c.args.bytes.now c.args.at (begins c.args.bytes.now c.args.at _ Within c.in-Within.is c.in_ok-head.ensures) (within_operator _ _) _ _ (λ a n. omega (arith, n)) c.in_err-both-in-Within.ensures.says) }
 
-pub sentence_literal-returns-in_err-outside : goal.sentence_literal-returns-in_err-outside
-sentence_literal-returns-in_err-outside t c =
+pub sentence_literal-returns-in_err-outside-in-Within : goal.sentence_literal-returns-in_err-outside-in-Within
+sentence_literal-returns-in_err-outside-in-Within t c =
     record {
       grown = grown_on _ _ _ c.pair_tables.ensures.grown (adds_grown _ _ _ c.apart.ensures.adds);
-      says = rw c.from_residual-in_err-outside.ensures (operator_fails _ _ _ _ _ c.args.bytes.now c.args.at (begins c.args.bytes.now c.args.at _ Within c.in-Within.is c.in_ok-head.ensures) (within_operator _ _) (unique_pair _ unique_e) c.in_ok-both.both.end _ _ (within_fails c.args.shape (seen c.args.spoken) c.args.circuit.now c.pair_tables.new.circuit c.apart.new.circuit c.in_ok-both.both c.apart.ensures.adds c.in_err-outside.ensures.came) c.in_ok-both.ensures.says);
+      says = rw c.from_residual-in_err-outside-in-Within.ensures (operator_fails _ _ _ _ _ c.args.bytes.now c.args.at (begins c.args.bytes.now c.args.at _ Within c.in-Within.is c.in_ok-head.ensures) (within_operator _ _) (unique_pair _ unique_e) c.in_ok-both-in-Within.both.end _ _ (within_fails c.args.shape (seen c.args.spoken) c.args.circuit.now c.pair_tables.new.circuit c.apart.new.circuit c.in_ok-both-in-Within.both c.apart.ensures.adds c.in_err-outside-in-Within.ensures.came) c.in_ok-both-in-Within.ensures.says);
     }
 
-pub sentence_literal-returns-in_ok-outside : goal.sentence_literal-returns-in_ok-outside
-sentence_literal-returns-in_ok-outside t c =
+pub sentence_literal-returns-in_ok-outside-in-Within : goal.sentence_literal-returns-in_ok-outside-in-Within
+sentence_literal-returns-in_ok-outside-in-Within t c =
     record {
       grown = grown_on _ _ _ c.pair_tables.ensures.grown (adds_grown _ _ _ c.apart.ensures.adds);
-      says = operator_stands _ _ _ _ _ c.args.bytes.now c.args.at (begins c.args.bytes.now c.args.at _ Within c.in-Within.is c.in_ok-head.ensures) (within_operator _ _) c.in_ok-both.both.end _ _ (within_encoded c.args.shape (seen c.args.spoken) c.args.circuit.now c.pair_tables.new.circuit c.apart.new.circuit c.in_ok-both.both c.in_ok-outside.outside c.negated.result c.apart.ensures.adds c.in_ok-outside.ensures.came c.negated.ensures) c.in_ok-both.ensures.says;
+      says = operator_stands _ _ _ _ _ c.args.bytes.now c.args.at (begins c.args.bytes.now c.args.at _ Within c.in-Within.is c.in_ok-head.ensures) (within_operator _ _) c.in_ok-both-in-Within.both.end _ _ (within_encoded c.args.shape (seen c.args.spoken) c.args.circuit.now c.pair_tables.new.circuit c.apart.new.circuit c.in_ok-both-in-Within.both c.in_ok-outside-in-Within.outside c.negated.result c.apart.ensures.adds c.in_ok-outside-in-Within.ensures.came c.negated.ensures) c.in_ok-both-in-Within.ensures.says;
     }
 
-pub sentence_literal-returns-in_err-table : goal.sentence_literal-returns-in_err-table
-sentence_literal-returns-in_err-table t c =
-    record { grown = c.expression_table.ensures.grown; says = rw c.from_residual-in_err-table.ensures (operator_absent _ _ _ _ _ c.args.bytes.now c.args.at (begins c.args.bytes.now c.args.at _ Nonempty c.in-Nonempty.is c.in_ok-head.ensures) (nonempty_operator _ _) _ _ (λ a n. omega (arith, n)) c.in_err-table.ensures.says) }
+pub sentence_literal-returns-in_err-table-in-Nonempty : goal.sentence_literal-returns-in_err-table-in-Nonempty
+sentence_literal-returns-in_err-table-in-Nonempty t c =
+    record { grown = c.expression_table.ensures.grown; says = rw c.from_residual-in_err-table-in-Nonempty.ensures (operator_absent _ _ _ _ _ c.args.bytes.now c.args.at (begins c.args.bytes.now c.args.at _ Nonempty c.in-Nonempty.is c.in_ok-head.ensures) (nonempty_operator _ _) _ _ (λ a n. omega (arith, n)) c.in_err-table-in-Nonempty.ensures.says) }
 
 pub sentence_literal-apart-requires-in-Nonempty : goal.sentence_literal-apart-requires-in-Nonempty
 sentence_literal-apart-requires-in-Nonempty t c =
-    record { sound = c.expression_table.ensures.grown.sound; few = c.requires.few.things; one = c.in_ok-table.ensures.says.says.shows.filled; other = (empty_shows c.expression_table.ensures.grown.sound c.args.shape.things (square _ c.requires.few.things) c.plain_table-empty.result c.plain_table-empty.ensures).filled }
+    record { sound = c.expression_table.ensures.grown.sound; few = c.requires.few.things; one = c.in_ok-table-in-Nonempty.ensures.says.says.shows.filled; other = (empty_shows c.expression_table.ensures.grown.sound c.args.shape.things (square _ c.requires.few.things) c.plain_table-empty.result c.plain_table-empty.ensures).filled }
 
-pub sentence_literal-returns-in_err-literal : goal.sentence_literal-returns-in_err-literal
-sentence_literal-returns-in_err-literal t c =
+pub sentence_literal-returns-in_err-literal-in-Nonempty : goal.sentence_literal-returns-in_err-literal-in-Nonempty
+sentence_literal-returns-in_err-literal-in-Nonempty t c =
     record {
       grown = grown_on _ _ _ c.expression_table.ensures.grown (adds_grown _ _ _ c.apart-in-Nonempty.ensures.adds);
-      says = rw c.from_residual-in_err-literal.ensures (operator_fails _ _ _ _ _ c.args.bytes.now c.args.at (begins c.args.bytes.now c.args.at _ Nonempty c.in-Nonempty.is c.in_ok-head.ensures) (nonempty_operator _ _) unique_e c.in_ok-table.table.end _ _ (nonempty_fails c.args.shape (seen c.args.spoken) c.args.circuit.now c.expression_table.new.circuit c.apart-in-Nonempty.new.circuit c.in_ok-table.table.literals c.apart-in-Nonempty.ensures.adds c.in_err-literal.ensures.came) c.in_ok-table.ensures.says);
+      says = rw c.from_residual-in_err-literal-in-Nonempty.ensures (operator_fails _ _ _ _ _ c.args.bytes.now c.args.at (begins c.args.bytes.now c.args.at _ Nonempty c.in-Nonempty.is c.in_ok-head.ensures) (nonempty_operator _ _) unique_e c.in_ok-table-in-Nonempty.table.end _ _ (nonempty_fails c.args.shape (seen c.args.spoken) c.args.circuit.now c.expression_table.new.circuit c.apart-in-Nonempty.new.circuit c.in_ok-table-in-Nonempty.table.literals c.apart-in-Nonempty.ensures.adds c.in_err-literal-in-Nonempty.ensures.came) c.in_ok-table-in-Nonempty.ensures.says);
     }
 
-pub sentence_literal-returns-in_ok-literal : goal.sentence_literal-returns-in_ok-literal
-sentence_literal-returns-in_ok-literal t c =
+pub sentence_literal-returns-in_ok-literal-in-Nonempty : goal.sentence_literal-returns-in_ok-literal-in-Nonempty
+sentence_literal-returns-in_ok-literal-in-Nonempty t c =
     record {
       grown = grown_on _ _ _ c.expression_table.ensures.grown (adds_grown _ _ _ c.apart-in-Nonempty.ensures.adds);
-      says = operator_stands _ _ _ _ _ c.args.bytes.now c.args.at (begins c.args.bytes.now c.args.at _ Nonempty c.in-Nonempty.is c.in_ok-head.ensures) (nonempty_operator _ _) c.in_ok-table.table.end _ _ (nonempty_encoded c.args.shape (seen c.args.spoken) c.args.circuit.now c.expression_table.new.circuit c.apart-in-Nonempty.new.circuit c.in_ok-table.table.literals c.plain_table-empty.result c.in_ok-literal.literal c.requires.few c.expression_table.ensures.grown.sound c.plain_table-empty.ensures c.apart-in-Nonempty.ensures.adds c.in_ok-literal.ensures.came) c.in_ok-table.ensures.says;
+      says = operator_stands _ _ _ _ _ c.args.bytes.now c.args.at (begins c.args.bytes.now c.args.at _ Nonempty c.in-Nonempty.is c.in_ok-head.ensures) (nonempty_operator _ _) c.in_ok-table-in-Nonempty.table.end _ _ (nonempty_encoded c.args.shape (seen c.args.spoken) c.args.circuit.now c.expression_table.new.circuit c.apart-in-Nonempty.new.circuit c.in_ok-table-in-Nonempty.table.literals c.plain_table-empty.result c.in_ok-literal-in-Nonempty.literal c.requires.few c.expression_table.ensures.grown.sound c.plain_table-empty.ensures c.apart-in-Nonempty.ensures.adds c.in_ok-literal-in-Nonempty.ensures.came) c.in_ok-table-in-Nonempty.ensures.says;
     }
 
-pub sentence_literal-returns-in_err-inner : goal.sentence_literal-returns-in_err-inner
-sentence_literal-returns-in_err-inner t c =
-    record { grown = c.sentence_literal.ensures.grown; says = rw c.from_residual-in_err-inner.ensures (operator_absent _ _ _ _ _ c.args.bytes.now c.args.at (begins c.args.bytes.now c.args.at _ Not c.in-Not.is c.in_ok-head.ensures) (negation_operator _ _) _ _ (λ a n. n) c.in_err-inner.ensures.says) }
+pub sentence_literal-returns-in_err-inner-in-Not : goal.sentence_literal-returns-in_err-inner-in-Not
+sentence_literal-returns-in_err-inner-in-Not t c =
+    record { grown = c.sentence_literal.ensures.grown; says = rw c.from_residual-in_err-inner-in-Not.ensures (operator_absent _ _ _ _ _ c.args.bytes.now c.args.at (begins c.args.bytes.now c.args.at _ Not c.in-Not.is c.in_ok-head.ensures) (negation_operator _ _) _ _ (λ a n. n) c.in_err-inner-in-Not.ensures.says) }
 
-pub sentence_literal-returns-in_ok-inner : goal.sentence_literal-returns-in_ok-inner
-sentence_literal-returns-in_ok-inner t c =
-    record { grown = c.sentence_literal.ensures.grown; says = operator_stands _ _ _ _ _ c.args.bytes.now c.args.at (begins c.args.bytes.now c.args.at _ Not c.in-Not.is c.in_ok-head.ensures) (negation_operator _ _) c.in_ok-inner.inner.end _ _ (not_encoded c.args.shape (seen c.args.spoken) c.args.circuit.now c.sentence_literal.new.circuit c.args.circuit.now c.in_ok-inner.inner.literal c.negated-in-Not.result c.negated-in-Not.ensures) c.in_ok-inner.ensures.says }
+pub sentence_literal-returns-in_ok-inner-in-Not : goal.sentence_literal-returns-in_ok-inner-in-Not
+sentence_literal-returns-in_ok-inner-in-Not t c =
+    record { grown = c.sentence_literal.ensures.grown; says = operator_stands _ _ _ _ _ c.args.bytes.now c.args.at (begins c.args.bytes.now c.args.at _ Not c.in-Not.is c.in_ok-head.ensures) (negation_operator _ _) c.in_ok-inner-in-Not.inner.end _ _ (not_encoded c.args.shape (seen c.args.spoken) c.args.circuit.now c.sentence_literal.new.circuit c.args.circuit.now c.in_ok-inner-in-Not.inner.literal c.negated-in-Not.result c.negated-in-Not.ensures) c.in_ok-inner-in-Not.ensures.says }
 
-pub sentence_literal-returns-in_err-one : goal.sentence_literal-returns-in_err-one
-sentence_literal-returns-in_err-one t c =
-    record { grown = c.sentence_literal-in-Both.ensures.grown; says = rw c.from_residual-in_err-one.ensures (operator_absent _ _ _ _ _ c.args.bytes.now c.args.at (begins c.args.bytes.now c.args.at _ Both c.in-Both.is c.in_ok-head.ensures) (both_operator _ _) _ _ (λ a n. omega (arith, n)) (pair_absent _ _ c.args.bytes.now _ _ (λ a. TooFew c.args.circuit.now c.sentence_literal-in-Both.new.circuit (size_s c.args.shape.things a.0 + size_s c.args.shape.things a.1)) (λ a b n. omega (arith, n)) c.in_err-one.ensures.says)) }
+pub sentence_literal-returns-in_err-one-in-Both : goal.sentence_literal-returns-in_err-one-in-Both
+sentence_literal-returns-in_err-one-in-Both t c =
+    record { grown = c.sentence_literal-in-Both.ensures.grown; says = rw c.from_residual-in_err-one-in-Both.ensures (operator_absent _ _ _ _ _ c.args.bytes.now c.args.at (begins c.args.bytes.now c.args.at _ Both c.in-Both.is c.in_ok-head.ensures) (both_operator _ _) _ _ (λ a n. omega (arith, n)) (pair_absent _ _ c.args.bytes.now _ _ (λ a. TooFew c.args.circuit.now c.sentence_literal-in-Both.new.circuit (size_s c.args.shape.things a.0 + size_s c.args.shape.things a.1)) (λ a b n. omega (arith, n)) c.in_err-one-in-Both.ensures.says)) }
 
-pub sentence_literal-returns-in_err-other : goal.sentence_literal-returns-in_err-other
-sentence_literal-returns-in_err-other t c =
+pub sentence_literal-returns-in_err-other-in-Both : goal.sentence_literal-returns-in_err-other-in-Both
+sentence_literal-returns-in_err-other-in-Both t c =
     record {
       grown = grown_on _ _ _ c.sentence_literal-in-Both.ensures.grown c.sentence_literal-in-Both-2.ensures.grown;
-      says = rw c.from_residual-in_err-other.ensures (operator_absent _ _ _ _ _ c.args.bytes.now c.args.at (begins c.args.bytes.now c.args.at _ Both c.in-Both.is c.in_ok-head.ensures) (both_operator _ _) _ _ (λ a n. omega (arith, n)) (pair_half _ _ c.args.bytes.now _ unique_s c.in_ok-one.one.end _ _ (λ a. TooFew c.args.circuit.now c.sentence_literal-in-Both-2.new.circuit (size_s c.args.shape.things a.0 + size_s c.args.shape.things a.1)) (both_half c.args.shape (seen c.args.spoken) c.args.circuit.now c.sentence_literal-in-Both.new.circuit c.sentence_literal-in-Both-2.new.circuit c.in_ok-one.one.literal) c.in_ok-one.ensures.says c.in_err-other.ensures.says));
+      says = rw c.from_residual-in_err-other-in-Both.ensures (operator_absent _ _ _ _ _ c.args.bytes.now c.args.at (begins c.args.bytes.now c.args.at _ Both c.in-Both.is c.in_ok-head.ensures) (both_operator _ _) _ _ (λ a n. omega (arith, n)) (pair_half _ _ c.args.bytes.now _ unique_s c.in_ok-one-in-Both.one.end _ _ (λ a. TooFew c.args.circuit.now c.sentence_literal-in-Both-2.new.circuit (size_s c.args.shape.things a.0 + size_s c.args.shape.things a.1)) (both_half c.args.shape (seen c.args.spoken) c.args.circuit.now c.sentence_literal-in-Both.new.circuit c.sentence_literal-in-Both-2.new.circuit c.in_ok-one-in-Both.one.literal) c.in_ok-one-in-Both.ensures.says c.in_err-other-in-Both.ensures.says));
     }
 
-pub sentence_literal-returns-in_err-literal-2 : goal.sentence_literal-returns-in_err-literal-2
-sentence_literal-returns-in_err-literal-2 t c =
+pub sentence_literal-returns-in_err-literal-in-Both : goal.sentence_literal-returns-in_err-literal-in-Both
+sentence_literal-returns-in_err-literal-in-Both t c =
     record {
       grown = grown_on _ _ _ (grown_on _ _ _ c.sentence_literal-in-Both.ensures.grown c.sentence_literal-in-Both-2.ensures.grown) (adds_grown _ _ _ c.gate.ensures.adds);
-      says = rw c.from_residual-in_err-literal-2.ensures (operator_fails _ _ _ _ _ c.args.bytes.now c.args.at (begins c.args.bytes.now c.args.at _ Both c.in-Both.is c.in_ok-head.ensures) (both_operator _ _) (unique_pair _ unique_s) c.in_ok-other.other.end (λ (a : Sentence × Sentence). EncodesS c.args.shape (seen c.args.spoken) c.args.circuit.now c.sentence_literal-in-Both.new.circuit c.in_ok-one.one.literal a.0 × EncodesS c.args.shape (seen c.args.spoken) c.sentence_literal-in-Both.new.circuit c.sentence_literal-in-Both-2.new.circuit c.in_ok-other.other.literal a.1) _ (both_fails c.args.shape (seen c.args.spoken) c.args.circuit.now c.sentence_literal-in-Both.new.circuit c.sentence_literal-in-Both-2.new.circuit c.gate.new.self c.in_ok-one.one.literal c.in_ok-other.other.literal c.gate.ensures.adds c.in_err-literal-2.ensures.came) (pair_stands _ _ c.args.bytes.now _ c.in_ok-one.one.end c.in_ok-other.other.end _ _ _ (λ a b q r. (q, r)) c.in_ok-one.ensures.says c.in_ok-other.ensures.says));
+      says = rw c.from_residual-in_err-literal-in-Both.ensures (operator_fails _ _ _ _ _ c.args.bytes.now c.args.at (begins c.args.bytes.now c.args.at _ Both c.in-Both.is c.in_ok-head.ensures) (both_operator _ _) (unique_pair _ unique_s) c.in_ok-other-in-Both.other.end (λ (a : Sentence × Sentence). EncodesS c.args.shape (seen c.args.spoken) c.args.circuit.now c.sentence_literal-in-Both.new.circuit c.in_ok-one-in-Both.one.literal a.0 × EncodesS c.args.shape (seen c.args.spoken) c.sentence_literal-in-Both.new.circuit c.sentence_literal-in-Both-2.new.circuit c.in_ok-other-in-Both.other.literal a.1) _ (both_fails c.args.shape (seen c.args.spoken) c.args.circuit.now c.sentence_literal-in-Both.new.circuit c.sentence_literal-in-Both-2.new.circuit c.gate.new.self c.in_ok-one-in-Both.one.literal c.in_ok-other-in-Both.other.literal c.gate.ensures.adds c.in_err-literal-in-Both.ensures.came) (pair_stands _ _ c.args.bytes.now _ c.in_ok-one-in-Both.one.end c.in_ok-other-in-Both.other.end _ _ _ (λ a b q r. (q, r)) c.in_ok-one-in-Both.ensures.says c.in_ok-other-in-Both.ensures.says));
     }
 
-pub sentence_literal-returns-in_ok-literal-2 : goal.sentence_literal-returns-in_ok-literal-2
-sentence_literal-returns-in_ok-literal-2 t c =
+pub sentence_literal-returns-in_ok-literal-in-Both : goal.sentence_literal-returns-in_ok-literal-in-Both
+sentence_literal-returns-in_ok-literal-in-Both t c =
     record {
       grown = grown_on _ _ _ (grown_on _ _ _ c.sentence_literal-in-Both.ensures.grown c.sentence_literal-in-Both-2.ensures.grown) (adds_grown _ _ _ c.gate.ensures.adds);
-      says = operator_stands _ _ _ _ _ c.args.bytes.now c.args.at (begins c.args.bytes.now c.args.at _ Both c.in-Both.is c.in_ok-head.ensures) (both_operator _ _) c.in_ok-other.other.end (λ (a : Sentence × Sentence). EncodesS c.args.shape (seen c.args.spoken) c.args.circuit.now c.sentence_literal-in-Both.new.circuit c.in_ok-one.one.literal a.0 × EncodesS c.args.shape (seen c.args.spoken) c.sentence_literal-in-Both.new.circuit c.sentence_literal-in-Both-2.new.circuit c.in_ok-other.other.literal a.1) _ (both_encoded c.args.shape (seen c.args.spoken) c.args.circuit.now c.sentence_literal-in-Both.new.circuit c.sentence_literal-in-Both-2.new.circuit c.gate.new.self c.in_ok-one.one.literal c.in_ok-other.other.literal c.gate.ensures.adds c.in_ok-literal-2.literal c.sentence_literal-in-Both-2.ensures.grown.grew c.in_ok-literal-2.ensures.came) (pair_stands _ _ c.args.bytes.now _ c.in_ok-one.one.end c.in_ok-other.other.end _ _ _ (λ a b q r. (q, r)) c.in_ok-one.ensures.says c.in_ok-other.ensures.says);
+      says = operator_stands _ _ _ _ _ c.args.bytes.now c.args.at (begins c.args.bytes.now c.args.at _ Both c.in-Both.is c.in_ok-head.ensures) (both_operator _ _) c.in_ok-other-in-Both.other.end (λ (a : Sentence × Sentence). EncodesS c.args.shape (seen c.args.spoken) c.args.circuit.now c.sentence_literal-in-Both.new.circuit c.in_ok-one-in-Both.one.literal a.0 × EncodesS c.args.shape (seen c.args.spoken) c.sentence_literal-in-Both.new.circuit c.sentence_literal-in-Both-2.new.circuit c.in_ok-other-in-Both.other.literal a.1) _ (both_encoded c.args.shape (seen c.args.spoken) c.args.circuit.now c.sentence_literal-in-Both.new.circuit c.sentence_literal-in-Both-2.new.circuit c.gate.new.self c.in_ok-one-in-Both.one.literal c.in_ok-other-in-Both.other.literal c.gate.ensures.adds c.in_ok-literal-in-Both.literal c.sentence_literal-in-Both-2.ensures.grown.grew c.in_ok-literal-in-Both.ensures.came) (pair_stands _ _ c.args.bytes.now _ c.in_ok-one-in-Both.one.end c.in_ok-other-in-Both.other.end _ _ _ (λ a b q r. (q, r)) c.in_ok-one-in-Both.ensures.says c.in_ok-other-in-Both.ensures.says);
     }
 
 pub sentence_literal-returns-else-spoken : goal.sentence_literal-returns-else-spoken
 sentence_literal-returns-else-spoken t c =
     record { grown = grown_not _ c.requires.sound; says = too_deep _ _ c.args.bytes.now c.args.at _ _ c.in-ForEvery.is c.in_ok-head.ensures c.if-spoken.false }
 
-pub sentence_literal-returns-in_err-body : goal.sentence_literal-returns-in_err-body
-sentence_literal-returns-in_err-body t c =
-    record { grown = grown_not _ c.requires.sound; says = rw c.from_residual-in_err-body.ensures (operator_absent _ _ _ _ _ c.args.bytes.now c.args.at (begins c.args.bytes.now c.args.at _ ForEvery c.in-ForEvery.is c.in_ok-head.ensures) (for_every_operator _ _ c.if-spoken.true) _ _ (λ a n. absurd n) c.in_err-body.ensures) }
+pub sentence_literal-returns-in_err-body-in-ForEvery : goal.sentence_literal-returns-in_err-body-in-ForEvery
+sentence_literal-returns-in_err-body-in-ForEvery t c =
+    record { grown = grown_not _ c.requires.sound; says = rw c.from_residual-in_err-body-in-ForEvery.ensures (operator_absent _ _ _ _ _ c.args.bytes.now c.args.at (begins c.args.bytes.now c.args.at _ ForEvery c.in-ForEvery.is c.in_ok-head.ensures) (for_every_operator _ _ c.if-spoken.true) _ _ (λ a n. absurd n) c.in_err-body-in-ForEvery.ensures) }
 
-pub sentence_literal-returns-in_err-literal-3 : goal.sentence_literal-returns-in_err-literal-3
-sentence_literal-returns-in_err-literal-3 t c =
-    record { grown = c.for_every.ensures.grown; says = rw c.from_residual-in_err-literal-3.ensures (operator_absent _ _ _ _ _ c.args.bytes.now c.args.at (begins c.args.bytes.now c.args.at _ ForEvery c.in-ForEvery.is c.in_ok-head.ensures) (for_every_operator _ _ c.if-spoken.true) _ _ (λ a n. n) c.in_err-literal-3.ensures.says) }
+pub sentence_literal-returns-in_err-literal-in-ForEvery : goal.sentence_literal-returns-in_err-literal-in-ForEvery
+sentence_literal-returns-in_err-literal-in-ForEvery t c =
+    record { grown = c.for_every.ensures.grown; says = rw c.from_residual-in_err-literal-in-ForEvery.ensures (operator_absent _ _ _ _ _ c.args.bytes.now c.args.at (begins c.args.bytes.now c.args.at _ ForEvery c.in-ForEvery.is c.in_ok-head.ensures) (for_every_operator _ _ c.if-spoken.true) _ _ (λ a n. n) c.in_err-literal-in-ForEvery.ensures.says) }
 
-pub sentence_literal-returns-in_ok-literal-3 : goal.sentence_literal-returns-in_ok-literal-3
-sentence_literal-returns-in_ok-literal-3 t c =
+pub sentence_literal-returns-in_ok-literal-in-ForEvery : goal.sentence_literal-returns-in_ok-literal-in-ForEvery
+sentence_literal-returns-in_ok-literal-in-ForEvery t c =
     record {
       grown = c.for_every.ensures.grown;
-      says = operator_stands _ _ _ _ _ c.args.bytes.now c.args.at (begins c.args.bytes.now c.args.at _ ForEvery c.in-ForEvery.is c.in_ok-head.ensures) (for_every_operator _ _ c.if-spoken.true) c.in_ok-body.body.end _ _ (every_encoded c.args.shape (seen c.args.spoken) c.args.circuit.now c.for_every.new.circuit c.in_ok-literal-3.literal) (every_stands c.args.shape c.args.spoken _ c.args.bytes.now (c.args.at + 1) c.in_ok-body.body.end c.in_ok-literal-3.literal c.args.circuit.now c.for_every.new.circuit _ c.in_ok-body.ensures c.in_ok-literal-3.ensures.says);
+      says = operator_stands _ _ _ _ _ c.args.bytes.now c.args.at (begins c.args.bytes.now c.args.at _ ForEvery c.in-ForEvery.is c.in_ok-head.ensures) (for_every_operator _ _ c.if-spoken.true) c.in_ok-body-in-ForEvery.body.end _ _ (every_encoded c.args.shape (seen c.args.spoken) c.args.circuit.now c.for_every.new.circuit c.in_ok-literal-in-ForEvery.literal) (every_stands c.args.shape c.args.spoken _ c.args.bytes.now (c.args.at + 1) c.in_ok-body-in-ForEvery.body.end c.in_ok-literal-in-ForEvery.literal c.args.circuit.now c.for_every.new.circuit _ c.in_ok-body-in-ForEvery.ensures c.in_ok-literal-in-ForEvery.ensures.says);
     }
 
 pub for_every-loop-thing-init : goal.for_every-loop-thing-init

@@ -11,26 +11,26 @@ pub expression_table-returns-in_err-head : goal.expression_table-returns-in_err-
 expression_table-returns-in_err-head t c =
     record { grown = grown_not _ c.requires.sound; says = rw c.from_residual.ensures (no_expression _ _ c.args.bytes.now c.args.at _ c.in_err-head.ensures) }
 
-pub expression_table-returns-in_err-one : goal.expression_table-returns-in_err-one
-expression_table-returns-in_err-one t c =
-    record { grown = c.expression_table.ensures.grown; says = rw c.from_residual-in_err-one.ensures (operator_absent _ _ _ _ _ c.args.bytes.now c.args.at (begins_unary c.args.bytes.now c.args.at _ _ c.in-Unary.is c.in_ok-head.ensures) (unary_operator _ _ c.in-Unary.operator) _ _ (λ a n. omega (arith, n)) c.in_err-one.ensures.says) }
+pub expression_table-returns-in_err-one-in-Unary : goal.expression_table-returns-in_err-one-in-Unary
+expression_table-returns-in_err-one-in-Unary t c =
+    record { grown = c.expression_table.ensures.grown; says = rw c.from_residual-in_err-one-in-Unary.ensures (operator_absent _ _ _ _ _ c.args.bytes.now c.args.at (begins_unary c.args.bytes.now c.args.at _ _ c.in-Unary.is c.in_ok-head.ensures) (unary_operator _ _ c.in-Unary.operator) _ _ (λ a n. omega (arith, n)) c.in_err-one-in-Unary.ensures.says) }
 
-pub expression_table-returns-in_err-literals : goal.expression_table-returns-in_err-literals
-expression_table-returns-in_err-literals t c =
+pub expression_table-returns-in_err-literals-in-Unary : goal.expression_table-returns-in_err-literals-in-Unary
+expression_table-returns-in_err-literals-in-Unary t c =
     record {
       grown = grown_on _ _ _ c.expression_table.ensures.grown (adds_grown _ _ _ c.transformed.ensures.adds);
-      says = rw c.from_residual-in_err-literals.ensures (operator_fails _ _ _ _ _ c.args.bytes.now c.args.at (begins_unary c.args.bytes.now c.args.at _ _ c.in-Unary.is c.in_ok-head.ensures) (unary_operator _ _ c.in-Unary.operator) unique_e c.in_ok-one.one.end _ _ (unary_fails c.args.shape (seen c.args.spoken) c.args.circuit.now c.expression_table.new.circuit c.transformed.new.circuit c.in-Unary.operator c.in_ok-one.one.literals c.transformed.ensures.adds c.in_err-literals.ensures.came) c.in_ok-one.ensures.says);
+      says = rw c.from_residual-in_err-literals-in-Unary.ensures (operator_fails _ _ _ _ _ c.args.bytes.now c.args.at (begins_unary c.args.bytes.now c.args.at _ _ c.in-Unary.is c.in_ok-head.ensures) (unary_operator _ _ c.in-Unary.operator) unique_e c.in_ok-one-in-Unary.one.end _ _ (unary_fails c.args.shape (seen c.args.spoken) c.args.circuit.now c.expression_table.new.circuit c.transformed.new.circuit c.in-Unary.operator c.in_ok-one-in-Unary.one.literals c.transformed.ensures.adds c.in_err-literals-in-Unary.ensures.came) c.in_ok-one-in-Unary.ensures.says);
     }
 
-pub expression_table-returns-in_err-both : goal.expression_table-returns-in_err-both
-expression_table-returns-in_err-both t c =
-    record { grown = c.pair_tables.ensures.grown; says = rw c.from_residual-in_err-both.ensures (operator_absent _ _ _ _ _ c.args.bytes.now c.args.at (begins_binary c.args.bytes.now c.args.at _ _ c.in-Binary.is c.in_ok-head.ensures) (binary_operator _ _ c.in-Binary.operator) _ _ (λ a n. omega (arith, n)) c.in_err-both.ensures.says) }
+pub expression_table-returns-in_err-both-in-Binary : goal.expression_table-returns-in_err-both-in-Binary
+expression_table-returns-in_err-both-in-Binary t c =
+    record { grown = c.pair_tables.ensures.grown; says = rw c.from_residual-in_err-both-in-Binary.ensures (operator_absent _ _ _ _ _ c.args.bytes.now c.args.at (begins_binary c.args.bytes.now c.args.at _ _ c.in-Binary.is c.in_ok-head.ensures) (binary_operator _ _ c.in-Binary.operator) _ _ (λ a n. omega (arith, n)) c.in_err-both-in-Binary.ensures.says) }
 
-pub expression_table-returns-in_err-literals-2 : goal.expression_table-returns-in_err-literals-2
-expression_table-returns-in_err-literals-2 t c =
+pub expression_table-returns-in_err-literals-in-Binary : goal.expression_table-returns-in_err-literals-in-Binary
+expression_table-returns-in_err-literals-in-Binary t c =
     record {
       grown = grown_on _ _ _ c.pair_tables.ensures.grown (adds_grown _ _ _ c.combined.ensures.adds);
-      says = rw c.from_residual-in_err-literals-2.ensures (operator_fails _ _ _ _ _ c.args.bytes.now c.args.at (begins_binary c.args.bytes.now c.args.at _ _ c.in-Binary.is c.in_ok-head.ensures) (binary_operator _ _ c.in-Binary.operator) (unique_pair _ unique_e) c.in_ok-both.both.end _ _ (binary_fails c.args.shape (seen c.args.spoken) c.args.circuit.now c.pair_tables.new.circuit c.combined.new.circuit c.in-Binary.operator c.in_ok-both.both c.combined.ensures.adds c.in_err-literals-2.ensures.came) c.in_ok-both.ensures.says);
+      says = rw c.from_residual-in_err-literals-in-Binary.ensures (operator_fails _ _ _ _ _ c.args.bytes.now c.args.at (begins_binary c.args.bytes.now c.args.at _ _ c.in-Binary.is c.in_ok-head.ensures) (binary_operator _ _ c.in-Binary.operator) (unique_pair _ unique_e) c.in_ok-both-in-Binary.both.end _ _ (binary_fails c.args.shape (seen c.args.spoken) c.args.circuit.now c.pair_tables.new.circuit c.combined.new.circuit c.in-Binary.operator c.in_ok-both-in-Binary.both c.combined.ensures.adds c.in_err-literals-in-Binary.ensures.came) c.in_ok-both-in-Binary.ensures.says);
     }
 
 pub expression_table-returns-then-relation-shape : goal.expression_table-returns-then-relation-shape
@@ -57,18 +57,18 @@ pub expression_table-returns-in-Empty : goal.expression_table-returns-in-Empty
 expression_table-returns-in-Empty t c =
     record { grown = grown_not _ c.requires.sound; says = empty_stands _ _ c.args.bytes.now c.args.at _ c.in_ok-head.ensures _ c.in-Empty.is (empty_encoded c.args.shape c.requires.few c.args.circuit.now c.requires.sound c.plain_table-in-Empty.result (seen c.args.spoken) c.plain_table-in-Empty.ensures) }
 
-pub expression_table-returns-in_ok-literals : goal.expression_table-returns-in_ok-literals
-expression_table-returns-in_ok-literals t c =
+pub expression_table-returns-in_ok-literals-in-Unary : goal.expression_table-returns-in_ok-literals-in-Unary
+expression_table-returns-in_ok-literals-in-Unary t c =
     record {
       grown = grown_on _ _ _ c.expression_table.ensures.grown (adds_grown _ _ _ c.transformed.ensures.adds);
-      says = operator_stands _ _ _ _ _ c.args.bytes.now c.args.at (begins_unary c.args.bytes.now c.args.at _ _ c.in-Unary.is c.in_ok-head.ensures) (unary_operator _ _ c.in-Unary.operator) c.in_ok-one.one.end _ _ (unary_encoded c.args.shape (seen c.args.spoken) c.args.circuit.now c.expression_table.new.circuit c.transformed.new.circuit c.in-Unary.operator c.in_ok-one.one.literals c.in_ok-literals.literals c.transformed.ensures.adds c.in_ok-literals.ensures.came) c.in_ok-one.ensures.says;
+      says = operator_stands _ _ _ _ _ c.args.bytes.now c.args.at (begins_unary c.args.bytes.now c.args.at _ _ c.in-Unary.is c.in_ok-head.ensures) (unary_operator _ _ c.in-Unary.operator) c.in_ok-one-in-Unary.one.end _ _ (unary_encoded c.args.shape (seen c.args.spoken) c.args.circuit.now c.expression_table.new.circuit c.transformed.new.circuit c.in-Unary.operator c.in_ok-one-in-Unary.one.literals c.in_ok-literals-in-Unary.literals c.transformed.ensures.adds c.in_ok-literals-in-Unary.ensures.came) c.in_ok-one-in-Unary.ensures.says;
     }
 
-pub expression_table-returns-in_ok-literals-2 : goal.expression_table-returns-in_ok-literals-2
-expression_table-returns-in_ok-literals-2 t c =
+pub expression_table-returns-in_ok-literals-in-Binary : goal.expression_table-returns-in_ok-literals-in-Binary
+expression_table-returns-in_ok-literals-in-Binary t c =
     record {
       grown = grown_on _ _ _ c.pair_tables.ensures.grown (adds_grown _ _ _ c.combined.ensures.adds);
-      says = operator_stands _ _ _ _ _ c.args.bytes.now c.args.at (begins_binary c.args.bytes.now c.args.at _ _ c.in-Binary.is c.in_ok-head.ensures) (binary_operator _ _ c.in-Binary.operator) c.in_ok-both.both.end _ _ (binary_encoded c.args.shape (seen c.args.spoken) c.args.circuit.now c.pair_tables.new.circuit c.combined.new.circuit c.in-Binary.operator c.in_ok-both.both c.in_ok-literals-2.literals c.combined.ensures.adds c.in_ok-literals-2.ensures.came) c.in_ok-both.ensures.says;
+      says = operator_stands _ _ _ _ _ c.args.bytes.now c.args.at (begins_binary c.args.bytes.now c.args.at _ _ c.in-Binary.is c.in_ok-head.ensures) (binary_operator _ _ c.in-Binary.operator) c.in_ok-both-in-Binary.both.end _ _ (binary_encoded c.args.shape (seen c.args.spoken) c.args.circuit.now c.pair_tables.new.circuit c.combined.new.circuit c.in-Binary.operator c.in_ok-both-in-Binary.both c.in_ok-literals-in-Binary.literals c.combined.ensures.adds c.in_ok-literals-in-Binary.ensures.came) c.in_ok-both-in-Binary.ensures.says;
     }
 
 pub pair_tables-returns-in_err-one : goal.pair_tables-returns-in_err-one

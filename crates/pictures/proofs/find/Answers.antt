@@ -12,14 +12,14 @@ bits_most c = ap (λ (x : ℕ). c.in-Some.outline.relations * x) c.pairs.ensures
 room : (c : After-pairs) → floor_of (length c.args.description.now) c.args.most c.in-Some.outline.depth ≤ length c.args.work.now
 room c = subst (λ (x : ℕ). x ≤ length c.args.work.now) c.floor.ensures c.if-work-floor.false
 
-pub returns-in-default : goal.returns-in-default
-returns-in-default c = answer_no_description _ _ _ _ c.in-default.ensures
+pub returns-in_default : goal.returns-in_default
+returns-in_default c = answer_no_description _ _ _ _ c.in_default.ensures
 
-pub returns-then-most-gt-MOST-THINGS : goal.returns-then-most-gt-MOST-THINGS
-returns-then-most-gt-MOST-THINGS c = answer_few _ _ _ _ _ c.in-Some.ensures (inl c.if-most-gt-MOST-THINGS.true)
+pub returns-then-most-gt-MOST_THINGS : goal.returns-then-most-gt-MOST_THINGS
+returns-then-most-gt-MOST_THINGS c = answer_few _ _ _ _ _ c.in-Some.ensures (inl c.if-most-gt-MOST_THINGS.true)
 
 pub floor-requires : goal.floor-requires
-floor-requires c = (short _ 0 c.args.out.now 0 _ c.in-Some.ensures, (c.if-most-gt-MOST-THINGS.false, shallow _ 0 c.args.out.now 0 _ c.in-Some.ensures))
+floor-requires c = (short _ 0 c.args.out.now 0 _ c.in-Some.ensures, (c.if-most-gt-MOST_THINGS.false, shallow _ 0 c.args.out.now 0 _ c.in-Some.ensures))
 
 pub returns-then-work-floor : goal.returns-then-work-floor
 returns-then-work-floor c = answer_few _ _ _ _ _ c.in-Some.ensures (inr (subst (λ (x : ℕ). length c.args.work.now < x) c.floor.ensures c.if-work-floor.true))
@@ -27,19 +27,19 @@ returns-then-work-floor c = answer_few _ _ _ _ _ c.in-Some.ensures (inr (subst (
 pub returns-then-out-relations : goal.returns-then-out-relations
 returns-then-out-relations c =
     let d = (goal.at.returns-then-out-relations c).After-pairs in
-    answer_out_full _ _ _ _ _ c.in-Some.ensures c.if-most-gt-MOST-THINGS.false (room d) (omega (arith, bits_most d))
+    answer_out_full _ _ _ _ _ c.in-Some.ensures c.if-most-gt-MOST_THINGS.false (room d) (omega (arith, bits_most d))
 
-pub returns-in-default-first-up-to : goal.returns-in-default-first-up-to
-returns-in-default-first-up-to c =
-    let d = (goal.at.returns-in-default-first-up-to c).After-pairs in
-    answer_none _ _ _ _ _ c.in-Some.ensures c.if-most-gt-MOST-THINGS.false (room d) (omega (arith, bits_most d)) c.in-default-first-up-to.ensures
+pub returns-in_default-first_up_to : goal.returns-in_default-first_up_to
+returns-in_default-first_up_to c =
+    let d = (goal.at.returns-in_default-first_up_to c).After-pairs in
+    answer_none _ _ _ _ _ c.in-Some.ensures c.if-most-gt-MOST_THINGS.false (room d) (omega (arith, bits_most d)) c.in_default-first_up_to.ensures
 
 pub unpack-requires : goal.unpack-requires
 unpack-requires c =
     let d = (goal.at.unpack-requires c).After-pairs in
-    (c.in-Some-first-up-to.ensures.shaped.fits, omega (arith, bits_most d, size_within c.args.description.now c.in-Some.outline.relations c.args.most c.in-Some-first-up-to.picture c.in-Some-first-up-to.ensures))
+    (c.in-Some-first_up_to.ensures.shaped.fits, omega (arith, bits_most d, size_within c.args.description.now c.in-Some.outline.relations c.args.most c.in-Some-first_up_to.picture c.in-Some-first_up_to.ensures))
 
 pub returns : goal.returns
 returns c =
     let d = (goal.at.returns c).After-pairs in
-    answer_first _ _ _ _ _ c.in-Some.ensures c.if-most-gt-MOST-THINGS.false (room d) (omega (arith, bits_most d)) c.in-Some-first-up-to.picture _ c.in-Some-first-up-to.ensures c.unpack.ensures
+    answer_first _ _ _ _ _ c.in-Some.ensures c.if-most-gt-MOST_THINGS.false (room d) (omega (arith, bits_most d)) c.in-Some-first_up_to.picture _ c.in-Some-first_up_to.ensures c.unpack.ensures

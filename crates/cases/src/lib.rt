@@ -5,6 +5,7 @@ mod tests {
     use evaluator::{is_of, pack};
     use pictures::pictures_find;
     use std::alloc::Global;
+    use std::process::Abort;
     use std::test::*;
 
     const NONE: u32 = 0x100;
@@ -20,23 +21,23 @@ mod tests {
     // The first picture of at most so many things has so many, and these bits; what stands behind
     // them in out is left as it was.
     fn expect(
-        rt: HostRuntime,
+        rt: &impl Abort,
+        heap: Global,
         description: &str,
         most: u32,
         things: u32,
         bits: &str,
     ) -> Result<(), Fail> {
-        let heap = rt.alloc();
         let description = bytes(heap, description)?;
         let bits = bytes(heap, bits)?;
         let mut work = vec![in heap; 0; 1_000_000]?;
         let mut out = [9; 32];
-        assert_eq!(
+        assert_eq!(rt;
             pictures_find(description.as_slice(), most, &mut out, work.as_mut_slice()),
             things
         );
         for (place, byte) in out.iter().enumerate() {
-            assert_eq!(*byte, bits.get(place).copied().unwrap_or(9));
+            assert_eq!(rt; *byte, bits.get(place).copied().unwrap_or(9));
         }
         Ok(())
     }
@@ -52,7 +53,14 @@ mod tests {
     // Many wishes hold of an empty house.
     #[test]
     fn no_things_at_all_forgotten(rt: HostRuntime) -> Result<(), Fail> {
-        expect(rt, "1 23 20 2 10 0 0 23 22 21 5 0 0 2 20 2 9 0 0", 3, 0, "")
+        expect(
+            &rt,
+            rt.alloc(),
+            "1 23 20 2 10 0 0 23 22 21 5 0 0 2 20 2 9 0 0",
+            3,
+            0,
+            "",
+        )
     }
 
     // Eight things in a ring: each comes back to itself, in eight steps and not in fewer.
@@ -85,7 +93,7 @@ mod tests {
     // the same one, and here they must be.
     #[test]
     fn two_things_that_are_the_same_one(rt: HostRuntime) -> Result<(), Fail> {
-        expect(rt, "1 23 21 2 24 24 21 5 1 0 1 1", 2, 1, "0")
+        expect(&rt, rt.alloc(), "1 23 21 2 24 24 21 5 1 0 1 1", 2, 1, "0")
     }
 
     // Each thing stands to some thing, and not to each thing stands some thing: inside the second
@@ -93,7 +101,8 @@ mod tests {
     #[test]
     fn for_every_over_a_thing_spoken_of_further_out(rt: HostRuntime) -> Result<(), Fail> {
         expect(
-            rt,
+            &rt,
+            rt.alloc(),
             "1 23 24 22 24 22 21 7 1 1 7 0 0 1 0 22 24 22 24 22 21 7 1 0 7 0 0 1 1",
             2,
             2,
@@ -107,14 +116,22 @@ mod tests {
     fn an_order_broken_by_leaving_out_pictures_that_look_alike(
         rt: HostRuntime,
     ) -> Result<(), Fail> {
-        expect(rt, "1 23 21 0 0 22 21 5 0 0 4 2 8 0 0", 2, 2, "0 0 1 0")
+        expect(
+            &rt,
+            rt.alloc(),
+            "1 23 21 0 0 22 21 5 0 0 4 2 8 0 0",
+            2,
+            2,
+            "0 0 1 0",
+        )
     }
 
     // Relation 1 is firsts of relation 0, in which some pair stands and none that is in all.
     #[test]
     fn firsts_taken_for_seconds(rt: HostRuntime) -> Result<(), Fail> {
         expect(
-            rt,
+            &rt,
+            rt.alloc(),
             "2 23 21 0 0 23 22 21 5 0 0 2 23 20 0 1 10 0 0 20 10 0 0 0 1",
             2,
             2,
@@ -125,6 +142,6 @@ mod tests {
     // Some pair in nothing.
     #[test]
     fn none_leaves_out_as_it_was(rt: HostRuntime) -> Result<(), Fail> {
-        expect(rt, "1 21 3", 2, NONE, "")
+        expect(&rt, rt.alloc(), "1 21 3", 2, NONE, "")
     }
 }

@@ -11,5 +11,5 @@ returns-then-from-to c =
       causes = c.requires.causes;
     }
 
-pub turn-round-requires : goal.turn-round-requires
-turn-round-requires c = let e = c.examine.ensures in record { good = e.good; jammed = (c.in-Conflict.ensures.jammed refl).0; causes = e.causes; few = c.requires.few }
+pub turn_round-requires : goal.turn_round-requires
+turn_round-requires c = let e = c.examine.ensures in record { good = e.good; jammed = (c.in-Conflict.ensures.jammed refl).0; causes = e.causes; few = c.requires.few }

@@ -74,10 +74,9 @@ fn code_of(found: Found) -> u32
     }
 }
 
-// The call for other languages: the number of things of the first picture, or 0x100 where there is
+// The answer as a number: the number of things of the first picture, or 0x100 where there is
 // none, 0x101 no description, 0x102 out full, 0x103 few.
-#[unsafe(no_mangle)]
-pub extern "C" fn pictures_find(
+pub fn pictures_find(
     description: &[u8],
     most: u32,
     out: &mut [u8],

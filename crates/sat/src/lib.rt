@@ -237,9 +237,8 @@ pub fn ask(
     }
 }
 
-// The call for other languages: 0 where there is none, 1 a model, 2 bad clauses, 3 few words.
-#[unsafe(no_mangle)]
-pub extern "C" fn sat_ask(
+// The answer as a number: 0 where there is none, 1 a model, 2 bad clauses, 3 few words.
+pub fn sat_ask(
     spans: &mut [u32],
     words: &mut [u32],
     values: &mut [u32],

@@ -2,8 +2,8 @@ use Rattle.std.proofs.Common.{arith}
 use Rattle.trail.proofs.Holding.{held_none}
 use Rattle.sat.proofs.solve_stored.Goals as goal
 
-pub solve-ordered-requires : goal.solve-ordered-requires
-solve-ordered-requires c =
+pub solve_ordered-requires : goal.solve_ordered-requires
+solve_ordered-requires c =
     record {
       good = held_none _ _ _ _ _ (omega arith) (omega arith) (omega arith) c.clear.ensures;
       stored = c.requires.stored;

@@ -2,6 +2,8 @@
 // from the values at a marked one. A marked variable may be replaced by those of its reason. When
 // only one of the current level is left, the marked variables are the learned clause. Levels and
 // reasons only steer: each step sees what it needs.
+#![tactic(auto)]
+
 ghost use Rattle.std.specs.Prelude.{◌≡◌, ℕ, ◌+◌, ◌/◌, ◌<◌, ◌≤◌, true, false, ◌⊎◌, length, IfSome, slice_index};
 ghost use Rattle.clauses.specs.Stores.{formula_of, StoredS, SoundS, SomeTrue};
 ghost use Rattle.clauses.specs.Formulas.{Assignment, Models};

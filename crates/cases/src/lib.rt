@@ -1,3 +1,5 @@
+#![tactic(auto)]
+
 // Tests by name: each shows that a mistake which is easily made was not made. Descriptions and
 // pictures are written as decimal bytes.
 #[cfg(test)]

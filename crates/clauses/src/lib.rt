@@ -1,4 +1,6 @@
 // Clauses of propositional logic in lent memory.
+#![tactic(auto)]
+
 ghost use Rattle.std.specs.Prelude.{◌≡◌};
 ghost use Rattle.clauses.specs.Formulas.{negation};
 

@@ -1,8 +1,6 @@
 -- Heads: what the writing of an expression or a sentence begins with.
 use Rattle.std.specs.Prelude.{◌≡◌, ℕ, ◌+◌, ◌<◌, ◌≤◌, cond, List, [], ◌∷◌, ◌++◌, length, drop, Some, None, Option, ◌==◌}
-use Rattle.descriptions.specs.declared.Unary.{Unary}
 use Rattle.descriptions.specs.declared.Unary.TheVariants.{Converse, Closure, Domain}
-use Rattle.descriptions.specs.declared.Binary.{Binary}
 use Rattle.descriptions.specs.declared.Binary.TheVariants.{Union, Intersection, Difference, Composition}
 use Rattle.descriptions.specs.declared.heads.ExpressionHead.{ExpressionHead}
 use Rattle.descriptions.specs.declared.heads.ExpressionHead.TheVariants as head

@@ -1,4 +1,6 @@
 // Descriptions of pictures: what they mean stands in specs/, how their bytes are read stands here.
+#![tactic(auto)]
+
 ghost use Rattle.descriptions.specs.Theorems.{StrictOrder, OneDescription};
 ghost use Rattle.descriptions.specs.Examples.{WorkedExamples};
 

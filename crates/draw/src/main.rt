@@ -1,5 +1,7 @@
 // Draws the first picture of at most three things of each description on standard input: a line of
 // decimal bytes each. Lines that begin with '#' say in words what is meant, and are written out.
+#![tactic(auto)]
+
 ghost use Rattle.std.specs.Prelude.{◌≡◌, ◌<◌, ◌≤◌};
 ghost use Rattle.draw.specs.Cells.{marked};
 

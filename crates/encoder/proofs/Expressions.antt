@@ -1,5 +1,5 @@
 -- The table of an expression, from those of its parts.
-use Rattle.std.proofs.Common.{◌≡◌, ℕ, ◌+◌, ◌*◌, ◌<◌, ◌≤◌, Bool, ◌&&◌, eqb, List, ◌++◌, length, get_or, sym, refl, ap, ◌∙◌, subst, append_assoc, arith}
+use Rattle.std.proofs.Common.{◌≡◌, ℕ, ◌+◌, ◌*◌, ◌<◌, ◌≤◌, Bool, ◌&&◌, eqb, List, ◌++◌, get_or, sym, ap, ◌∙◌, append_assoc, arith}
 use Rattle.std.proofs.lemmas.Bool.{lt-ltb}
 use Rattle.descriptions.specs.declared.Unary.{Unary}
 use Rattle.descriptions.specs.declared.Binary.{Binary}
@@ -19,7 +19,7 @@ use Rattle.tables.proofs.Filling.{square}
 use Rattle.tables.proofs.Constants.{inputs_show, single_shows, identity_shows, empty_shows}
 use Rattle.encoder.specs.declared.encoding.Shape.{Shape}
 use Rattle.encoder.specs.declared.encoding.Tables.{Tables}
-use Rattle.encoder.specs.Encoding.{bits_of, Few, size_e, TooFew, ShowsE, EncodesE, EncodesPair}
+use Rattle.encoder.specs.Encoding.{bits_of, Few, size_e, TooFew, EncodesE, EncodesPair}
 use Rattle.encoder.proofs.Inputs.{bit_drawn}
 use Rattle.encoder.proofs.Growth.{shows_still}
 use Rattle.evaluator.proofs.Pictures.{row_fits}

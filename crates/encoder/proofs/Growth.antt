@@ -1,5 +1,5 @@
 -- Circuits that grow, and what was said of them before.
-use Rattle.std.proofs.Common.{ℕ, ◌+◌, ◌*◌, ◌<◌, ◌≤◌, List, arith}
+use Rattle.std.proofs.Common.{ℕ, List, arith}
 use Rattle.descriptions.specs.Meaning.{Expression, Sentence}
 use Rattle.gates.specs.declared.circuit.Circuit.{Circuit}
 use Rattle.gates.specs.Circuits.{SoundC, GrewC, AddsC, Claims}

@@ -1,5 +1,5 @@
 -- Variables of pictures.
-use Rattle.std.proofs.Common.{◌≡◌, ℕ, ◌+◌, ◌*◌, ◌<◌, ◌≤◌, Bool, true, false, ◌&&◌, ltb, get_or, sym, refl, ap, ◌∙◌, subst, mul_assoc, add-mul, mul-le-mul, arith}
+use Rattle.std.proofs.Common.{◌≡◌, ℕ, ◌+◌, ◌*◌, ◌<◌, ◌≤◌, false, get_or, sym, ap, ◌∙◌, mul_assoc, add-mul, mul-le-mul, arith}
 use Rattle.std.proofs.lemmas.Bool.{lt-ltb}
 use Rattle.descriptions.specs.Pictures.{Picture, relation_of}
 use Rattle.clauses.specs.Formulas.{Assignment}

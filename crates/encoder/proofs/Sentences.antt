@@ -1,7 +1,7 @@
 -- The literal of a sentence, from those of its parts.
-use Rattle.std.proofs.Common.{◌≡◌, ℕ, ◌+◌, ◌*◌, ◌<◌, ◌≤◌, Bool, true, false, not, ◌&&◌, ◌||◌, List, ◌∷◌, ◌++◌, length, drop, sym, refl, ap, ◌∙◌, subst, zero-mul, add-one, arith}
-use Rattle.descriptions.specs.Pictures.{Relation, Picture, any, every}
-use Rattle.descriptions.specs.Meaning.{Expression, Sentence, within, nonempty, negation, both, for_every, value, holds}
+use Rattle.std.proofs.Common.{◌≡◌, ℕ, ◌+◌, ◌*◌, ◌<◌, Bool, true, false, not, ◌&&◌, ◌||◌, List, ◌∷◌, ◌++◌, drop, sym, refl, ap, ◌∙◌, subst, zero-mul, add-one, arith}
+use Rattle.descriptions.specs.Pictures.{Relation, any, every}
+use Rattle.descriptions.specs.Meaning.{Expression, Sentence, within, nonempty, negation, both, for_every, value}
 use Rattle.descriptions.specs.Bytes.{write_s, fine_s}
 use Rattle.descriptions.specs.Reading.{Stands, Absent}
 use Rattle.descriptions.proofs.Quantifiers.{any_cong, not_any}
@@ -12,7 +12,7 @@ use Rattle.evaluator.specs.Speaking.{seen, Extended}
 use Rattle.clauses.specs.Formulas as literal
 use Rattle.clauses.proofs.Literals.{value_negation}
 use Rattle.gates.specs.declared.circuit.Circuit.{Circuit}
-use Rattle.gates.specs.Circuits.{mix, SoundC, GoesC, GrewC, AddsC, GivesC, Full}
+use Rattle.gates.specs.Circuits.{mix, SoundC, GrewC, AddsC, GivesC, Full}
 use Rattle.gates.proofs.Literals.{value_true, value_false, negation_low}
 use Rattle.gates.proofs.Gates.{goes_fewer}
 use Rattle.tables.specs.declared.plain.Plain.TheVariants as plain
@@ -21,7 +21,7 @@ use Rattle.tables.proofs.Filling.{square, cost_step, cost_last}
 use Rattle.tables.proofs.Constants.{empty_shows}
 use Rattle.encoder.specs.declared.encoding.Shape.{Shape}
 use Rattle.encoder.specs.declared.encoding.Tables.{Tables}
-use Rattle.encoder.specs.Encoding.{Few, bits_of, Draws, size_s, TooFew, ShowsE, EncodesE, EncodesPair, EncodesS, EncodesEvery, EverySays}
+use Rattle.encoder.specs.Encoding.{Few, size_s, TooFew, EncodesE, EncodesPair, EncodesS, EncodesEvery, EverySays}
 
 not_but : (a b : Bool) → (not a || b) ≡ not (a && not b)
 not_but true true = refl

@@ -1,5 +1,7 @@
 // The circuit of a description, made from its bytes: a literal that is true where the picture that an
 // assignment draws is of the description.
+#![tactic(auto)]
+
 ghost use Rattle.encoder.specs.Theorems.{ModelsHavePictures, PicturesHaveModels, GatesAreFew};
 
 // Expressions and sentences, encoded where they are written.

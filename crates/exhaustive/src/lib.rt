@@ -1,5 +1,7 @@
 // The first picture of a description by trying all pictures in order. It is slow and plain: what
 // any other engine answers is compared with it.
+#![tactic(auto)]
+
 ghost use Rattle.std.specs.Prelude.{◌≤◌};
 ghost use Rattle.evaluator.specs.Packing.{FitsP};
 ghost use Rattle.exhaustive.specs.Trying.{Blank, Advanced, Tells, FirstOf, FirstUpTo};

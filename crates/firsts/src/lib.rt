@@ -1,4 +1,6 @@
 // The first picture: that there is one, what may be left out on the way to it, and how it is reached. Nothing runs.
+#![tactic(auto)]
+
 ghost use Rattle.firsts.specs.Orders.{OrderDecided, FirstThere};
 ghost use Rattle.firsts.specs.Sieves.{SieveKeeps};
 ghost use Rattle.firsts.specs.Leaders.{LeadersKeep};

@@ -1,7 +1,7 @@
 -- Gates that are added, and gates that there are.
-use Rattle.std.proofs.Common.{◌≡◌, ℕ, ◌+◌, ◌*◌, ◌/◌, ◌^◌, ◌<◌, ◌≤◌, Bool, ◌⊎◌, List, length, get_or, sym, refl, ap, ◌∙◌, subst, inl, inr, arith}
+use Rattle.std.proofs.Common.{◌≡◌, ℕ, ◌+◌, ◌*◌, ◌/◌, ◌^◌, ◌<◌, ◌≤◌, Bool, ◌⊎◌, List, length, get_or, sym, refl, ◌∙◌, subst, inl, inr, arith}
 use Rattle.std.proofs.lemmas.Bool.{cases_lt}
-use Rattle.clauses.specs.Formulas.{Assignment, value}
+use Rattle.clauses.specs.Formulas.{Assignment}
 use Rattle.gates.specs.declared.folding.Inputs.{Inputs}
 use Rattle.gates.specs.Circuits.{mix, output, Goes, Sound, Grows, Adds, Gives, Reordered, Folded, Stands}
 use Rattle.gates.proofs.Literals.{value_even}

@@ -1,9 +1,9 @@
 -- Literals, the constants among them, and gates that need no gate.
-use Rattle.std.proofs.Common.{◌≡◌, ℕ, ◌+◌, ◌-◌, ◌*◌, ◌/◌, ◌%◌, ◌<◌, Bool, true, false, cond, not, ◌&&◌, ◌||◌, sym, refl, ap, ◌∙◌, subst, arith}
+use Rattle.std.proofs.Common.{◌≡◌, ℕ, ◌+◌, ◌*◌, ◌/◌, ◌%◌, ◌<◌, Bool, true, false, not, ◌&&◌, ◌||◌, sym, refl, ap, ◌∙◌, arith}
 use Rattle.clauses.specs.Formulas.{Assignment, value, negation}
 use Rattle.clauses.proofs.Literals.{value_negation}
 use Rattle.gates.specs.declared.folding.Inputs.{Inputs}
-use Rattle.gates.specs.Circuits.{mix, Reordered, Folded}
+use Rattle.gates.specs.Circuits.{Reordered, Folded}
 
 pub value_even : (α : Assignment) (l x : ℕ) → l ≡ 2 * x → value α l ≡ α x
 unfolding value

@@ -1,4 +1,6 @@
 // Circuits of one kind of gate, 'p, or x and y', over the literals of propositional logic.
+#![tactic(auto)]
+
 ghost use Rattle.gates.specs.Theorems.{Extends, Determined};
 
 // What a gate comes to where it needs none: constants, equal and opposite inputs.

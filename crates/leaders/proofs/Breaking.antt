@@ -8,7 +8,6 @@ use Rattle.descriptions.specs.First.{NoPicture, FirstOfSize}
 use Rattle.clauses.specs.Formulas.{Assignment}
 use Rattle.gates.specs.declared.circuit.Circuit.{Circuit}
 use Rattle.gates.specs.Circuits.{GoesC}
-use Rattle.gates.proofs.Runs.{extends}
 use Rattle.firsts.specs.Orders.{NoneOf, FirstWith}
 use Rattle.firsts.specs.Sieves.{Sieved}
 use Rattle.firsts.specs.Leaders.{Leader}

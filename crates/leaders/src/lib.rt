@@ -1,6 +1,8 @@
 // Symmetry breaking: of the pictures that differ only by what things are called, clauses leave few but the first.
 // For a transposition of things, a chain of gates and claims says that a picture does not come after itself with the two
 // things changed about.
+#![tactic(auto)]
+
 ghost use Rattle.std.specs.Prelude.{◌≡◌, ◌+◌, ◌*◌, ◌<◌, ◌≤◌, true, false};
 ghost use Rattle.firsts.specs.Leaders.{source, swap};
 ghost use Rattle.gates.specs.Circuits.{InC, SoundC};

@@ -1,6 +1,8 @@
 // What follows from a clause that was learned: the trail goes back to where the clause leaves one
 // literal, which is then implied. That it does is seen here, and trusted from nowhere; where it does
 // not, the last decision is turned round.
+#![tactic(auto)]
+
 ghost use Rattle.std.specs.Prelude.{◌≡◌, ◌+◌, ◌/◌, ◌<◌, ◌≤◌, true, length};
 ghost use Rattle.clauses.specs.Formulas.{negation};
 ghost use Rattle.clauses.specs.Stores.{formula_of, SoundS};

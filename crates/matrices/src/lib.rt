@@ -1,5 +1,7 @@
 // Boolean matrices: a relation between at most eight things in a 64-bit word, with what the
 // operators of descriptions make of one or two of them.
+#![tactic(auto)]
+
 ghost use Rattle.std.specs.Prelude.{◌≡◌, ℕ, ◌*◌, ◌<◌, ◌≤◌, not, ◌&&◌, ◌||◌, if◌then◌else◌, ◌==◌, nat_eq};
 ghost use Rattle.descriptions.specs.Pictures.{any, every, compose};
 ghost use Rattle.descriptions.specs.Meaning.{transform, combine};

@@ -1,5 +1,7 @@
 // The first picture of a description: of the fewest things, and of those the first in the order of
 // pictures, so that whoever asks gets the same one.
+#![tactic(auto)]
+
 ghost use Rattle.std.specs.Prelude.{◌≡◌, ◌≤◌, length};
 ghost use Rattle.pictures.specs.Promise.{floor_of, code, FoundPost, CodePost};
 
@@ -76,12 +78,7 @@ fn code_of(found: Found) -> u32
 
 // The answer as a number: the number of things of the first picture, or 0x100 where there is
 // none, 0x101 no description, 0x102 out full, 0x103 few.
-pub fn pictures_find(
-    description: &[u8],
-    most: u32,
-    out: &mut [u8],
-    work: &mut [u32],
-) -> u32
+pub fn pictures_find(description: &[u8], most: u32, out: &mut [u8], work: &mut [u32]) -> u32
     ensures { CodePost description.now most out.old out.new (length work.old) result }
 {
     let found = find(description, most, out, work);

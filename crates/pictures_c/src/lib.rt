@@ -1,5 +1,6 @@
 // The call for other languages, `pictures_find`, as a static library.
 #![tactic(auto)]
+
 ghost use Rattle.std.specs.Prelude.{length};
 ghost use Rattle.pictures.specs.Promise.{CodePost};
 

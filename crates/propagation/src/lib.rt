@@ -1,6 +1,8 @@
 // Unit propagation: of each clause two literals are watched, and a clause is looked at only when one
 // of them becomes false. Nothing rests on which literals are watched: what a look concludes it has
 // seen, and a clause that is not looked at concludes nothing.
+#![tactic(auto)]
+
 ghost use Rattle.std.specs.Prelude.{◌≡◌, ℕ, ◌+◌, ◌*◌, ◌/◌, ◌<◌, ◌≤◌, length, IfSome, slice_index};
 ghost use Rattle.clauses.specs.Stores.{from, to, formula_of, StoredS, SoundS};
 ghost use Rattle.trail.specs.Trails.{IsTrueUnder, Good, Jammed, rank};

@@ -1,4 +1,6 @@
 // Whether clauses have a model: one call on lent memory.
+#![tactic(auto)]
+
 ghost use Rattle.std.specs.Prelude.{◌≡◌, ◌+◌, ◌*◌, ◌^◌, ◌<◌, ◌≤◌, true, false, length};
 ghost use Rattle.clauses.specs.Formulas.{Assignment, Models};
 ghost use Rattle.clauses.specs.Stores.{formula_of, StoredS};

@@ -1,5 +1,6 @@
 // The call for other languages, `sat_ask`, as a static library.
 #![tactic(auto)]
+
 ghost use Rattle.std.specs.Prelude.{◌≡◌, length};
 ghost use Rattle.sat.specs.Promise.{CodePost};
 

@@ -1,5 +1,7 @@
 // Finds a model of clauses, or that there is none. It ends for any clauses and any memory, and no
 // answer rests on what it tries first, what it remembers or forgets, or who watches which clause.
+#![tactic(auto)]
+
 ghost use Rattle.std.specs.Prelude.{◌≡◌, ◌<◌, ◌≤◌, true, false, length};
 ghost use Rattle.clauses.specs.Formulas.{Assignment, Models};
 ghost use Rattle.clauses.specs.Stores.{formula_of, StoredS, SoundS};

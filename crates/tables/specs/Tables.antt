@@ -4,7 +4,7 @@ use Rattle.descriptions.specs.declared.Unary.{Unary}
 use Rattle.descriptions.specs.declared.Unary.TheVariants as unary
 use Rattle.descriptions.specs.declared.Binary.{Binary}
 use Rattle.descriptions.specs.declared.Binary.TheVariants as binary
-use Rattle.descriptions.specs.Pictures.{Relation, any}
+use Rattle.descriptions.specs.Pictures.{Relation}
 use Rattle.descriptions.specs.Meaning.{transform, combine}
 use Rattle.clauses.specs.Formulas.{Assignment, value}
 use Rattle.gates.specs.declared.circuit.Circuit.{Circuit}

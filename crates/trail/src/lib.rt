@@ -1,5 +1,7 @@
 // The trail over clauses. It says what holds in every model that has the decisions, and
 // it is what falls: no step but one from a counted budget makes it larger as a number in base 3.
+#![tactic(auto)]
+
 ghost use Rattle.std.specs.Prelude.{◌≡◌, ℕ, ◌+◌, ◌-◌, ◌/◌, ◌%◌, ◌<◌, ◌≤◌, true, false, length, ◌==◌, slice_index, slice_set};
 ghost use Rattle.clauses.specs.Formulas.{Assignment, value, negation, Models};
 ghost use Rattle.clauses.specs.Stores.{formula_of};

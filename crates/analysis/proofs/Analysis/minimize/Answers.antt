@@ -1,4 +1,4 @@
-use Rattle.std.proofs.Common.{◌≡◌, ℕ, ◌/◌, ◌<◌, get_or, ap, ◌∙◌, arith}
+use Rattle.std.proofs.Common.{◌≡◌, ℕ, ◌/◌, get_or, ap, ◌∙◌, arith}
 use Rattle.clauses.proofs.Literals.{negation_half}
 use Rattle.analysis.proofs.Marks.{half}
 use Rattle.analysis.proofs.Analysis.minimize.Goals as goal

@@ -1,4 +1,4 @@
-use Rattle.std.proofs.Common.{◌*◌, ◌≤◌, refl, mul-le-mul_right, zero-mul, arith}
+use Rattle.std.proofs.Common.{◌*◌, ◌≤◌, refl, mul-le-mul_right, arith}
 use Rattle.gates.proofs.Gates.{adds_none}
 use Rattle.tables.specs.Tables.{shown, made, way_cost}
 use Rattle.tables.proofs.Filling.{square, adds_on, adds_less, upto_none, upto_put, upto_all, cost_step, cost_last}

@@ -1,4 +1,4 @@
-use Rattle.std.proofs.Common.{◌≡◌, ◌+◌, ◌*◌, ◌≤◌, mul-le-mul_right, mul-one, arith}
+use Rattle.std.proofs.Common.{◌*◌, ◌≤◌, mul-le-mul_right, mul-one, arith}
 use Rattle.gates.proofs.Gates.{adds_none}
 use Rattle.tables.proofs.Filling.{adds_on, adds_less, cost_step, cost_last}
 use Rattle.tables.proofs.Ways.{via_none, via_on, via_all}

@@ -1,4 +1,4 @@
-use Rattle.std.proofs.Common.{◌+◌, ◌*◌, ◌/◌, ◌%◌, ◌<◌, refl, arith}
+use Rattle.std.proofs.Common.{◌/◌, ◌%◌, refl, arith}
 use Rattle.gates.proofs.Gates.{adds_none}
 use Rattle.tables.specs.declared.pairs.Way.TheVariants.{Of, Converse, Domain, Through}
 use Rattle.tables.proofs.Filling.{place_lt, place_parts, came_weaker, false_gives}

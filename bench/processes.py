@@ -29,7 +29,7 @@ def build(library, program):
     code = [path for path in (ROOT / "crates").rglob("*") if path.suffix in (".rt", ".antt")]
     newest = max(path.stat().st_mtime for path in code)
     if not archive.is_file() or archive.stat().st_mtime < newest:
-        subprocess.run(["rt", "staticlib", library], cwd=ROOT, check=True)
+        subprocess.run(["tools/staticlib", library], cwd=ROOT, check=True)
     folder = ROOT / "bench" / program
     cargo = ["cargo", "build", "--quiet", "--release", "--manifest-path"]
     subprocess.run([*cargo, folder / "Cargo.toml"], check=True)

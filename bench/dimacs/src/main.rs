@@ -1,7 +1,7 @@
 //! The solver's one exported call, `sat_ask`, on DIMACS files, and held to trying all
 //! assignments.
 //!
-//! Build the library first, in the repository: `rt staticlib sat`. Then, here:
+//! Build the library first, in the repository: `tools/staticlib sat`. Then, here:
 //!
 //!     cargo run --release -- [--words N] FILE
 //!     cargo run --release -- random COUNT

@@ -1,6 +1,6 @@
 //! The library's one exported call, `pictures_find`, on a description, with what it took.
 //!
-//! Build the library first, in the repository: `rt staticlib pictures`. Then, here:
+//! Build the library first, in the repository: `tools/staticlib pictures`. Then, here:
 //!
 //!     cargo run --release -- MOST < DESCRIPTION
 //!

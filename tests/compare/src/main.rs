@@ -6,7 +6,7 @@
 //! call the same and compares answers, bits, and what the call leaves of the memory that
 //! it was lent.
 //!
-//! Build the library first, in the repository: `rt staticlib pictures`. Then, here:
+//! Build the library first, in the repository: `tools/staticlib pictures`. Then, here:
 //!
 //!     cargo run --release -- [--seed N] [--trace] [PART...]
 //!

@@ -1,5 +1,5 @@
-//! The solver's one exported call, `sat_ask`, on DIMACS files, and held to trying all
-//! assignments.
+//! The solver's exported calls, `sat_ask`, `sat_ask_under` and `sat_first`, on DIMACS files,
+//! and held to trying all assignments.
 //!
 //! Build the library first, in the repository: `tools/staticlib sat`. Then, here:
 //!
@@ -8,8 +8,8 @@
 //!
 //! The first prints the answer as the SAT competition asks: `s SATISFIABLE` with the
 //! model, or `s UNSATISFIABLE`, and ends with 10 or 20; before it stand lines with c about
-//! sizes and times. It checks each model itself. N is how many words of memory are lent
-//! above the floor, 20,000,000 if it is not given.
+//! sizes, times and what the solver counted. It checks each model itself. N is how many
+//! words of memory are lent above the floor, 100,000,000 if it is not given.
 //! The second asks COUNT small random questions, each with much memory and with exactly
 //! the floor, and ends with 1 after the first that is answered wrong.
 
@@ -17,14 +17,14 @@ mod ask;
 mod formula;
 mod random;
 
-use ask::{Answer, ask, floor};
+use ask::{Answer, ask_under, floor};
 use formula::Formula;
 use std::io::{self, BufWriter, Write};
 use std::process::ExitCode;
 use std::time::Instant;
 
 const USAGE: &str = "usage: dimacs [--words N] FILE | dimacs random COUNT";
-const WORDS: usize = 20_000_000;
+const WORDS: usize = 100_000_000;
 
 /// The longest line of a printed model.
 const WIDTH: usize = 78;
@@ -57,7 +57,8 @@ fn solve(path: &str, above: usize) -> Result<ExitCode, String> {
     let read = start.elapsed();
     // Zeroed pages that nobody touches take neither time nor memory.
     let mut work = vec![0; floor(&formula) + above];
-    let answer = ask(&formula, &mut work).map_err(|what| format!("{path}: {what}"))?;
+    let (answer, counts) =
+        ask_under(&formula, &[], &mut work).map_err(|what| format!("{path}: {what}"))?;
     let solved = start.elapsed() - read;
     let mut out = BufWriter::new(io::stdout().lock());
     writeln!(out, "c variables {}", formula.variables)
@@ -65,6 +66,12 @@ fn solve(path: &str, above: usize) -> Result<ExitCode, String> {
         .and_then(|()| writeln!(out, "c words lent {}", work.len()))
         .and_then(|()| writeln!(out, "c seconds reading {:.6}", read.as_secs_f64()))
         .and_then(|()| writeln!(out, "c seconds solving {:.6}", solved.as_secs_f64()))
+        .and_then(|()| writeln!(out, "c conflicts {}", counts.conflicts))
+        .and_then(|()| writeln!(out, "c decisions {}", counts.decisions))
+        .and_then(|()| writeln!(out, "c restarts {}", counts.restarts))
+        .and_then(|()| writeln!(out, "c reductions {}", counts.reductions))
+        .and_then(|()| writeln!(out, "c refusals {}", counts.refusals))
+        .and_then(|()| writeln!(out, "c unkept {}", counts.unkept))
         .and_then(|()| print(&mut out, &answer))
         .and_then(|()| out.flush())
         .map_err(|error| format!("the answer cannot be written: {error}"))?;

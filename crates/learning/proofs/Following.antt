@@ -22,7 +22,7 @@ forced f v values literals marks n before c l held low follows each α m decided
     here s = by s (each s.at s.inside)
 
 -- a model of the clauses and of one more
-models_more : (f : List (List ℕ)) (c : List ℕ) (α : Assignment) → Models f α → Satisfies α c → Models (f ++ (c ∷ [])) α
+pub models_more : (f : List (List ℕ)) (c : List ℕ) (α : Assignment) → Models f α → Satisfies α c → Models (f ++ (c ∷ [])) α
 models_more [] c α m s zero h = s
 models_more [] c α m s (suc k) h = absurd (omega arith)
 models_more (x ∷ f) c α m s zero h = m 0 (omega arith)

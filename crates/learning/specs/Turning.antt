@@ -1,8 +1,10 @@
 -- What a clause that follows does to the trail.
-use Rattle.std.specs.Prelude.{◌≡◌, ℕ, ◌/◌, ◌<◌, true, ◌⊎◌, List, length, slice_index}
+use Rattle.std.specs.Prelude.{◌≡◌, ℕ, ◌/◌, ◌<◌, ◌≤◌, true, ◌⊎◌, List, length, Some, None, Option, slice_index}
 use Rattle.clauses.specs.Formulas.{Assignment, value, negation, Satisfies, Models}
+use Rattle.clauses.specs.Stores.{SomeTrue}
 use Rattle.trail.specs.declared.Trail.{Trail}
 use Rattle.trail.specs.Trails.{Decided, OnTrail, Good, rank}
+use Rattle.learning.specs.declared.Refusal.{Refusal}
 use Rattle.learning.specs.declared.Turn.{Turn}
 use Rattle.learning.specs.declared.Turn.TheVariants.{Jump, Flip, End}
 
@@ -32,3 +34,20 @@ abbrev pub TurnSays : List (List ℕ) → ℕ → Trail → Trail → Turn → T
 TurnSays f v s t Jump = Fallen f v s t
 TurnSays f v s t Flip = Fallen f v s t
 TurnSays f v s t End = (α : Assignment) → Models f α → ⊥
+
+-- the first literals of a buffer are a clause that every model satisfies
+pub record ClauseFollows (f : List (List ℕ)) (v : ℕ) (buffer : List ℕ) (size : ℕ) : Type 0 where
+  pub room : size ≤ length buffer
+  pub known : (j : ℕ) → j < size → slice_index buffer j / 2 < v
+  pub follows : (α : Assignment) → Models f α → SomeTrue α buffer 0 size
+
+-- the negated decisions, and where the last of them stands
+abbrev pub RefusalSays : List (List ℕ) → ℕ → ℕ → List ℕ → Option Refusal → Type 0
+RefusalSays f v n buffer None = Unit {0}
+RefusalSays f v n buffer (Some r) = ClauseFollows f v buffer r.size × (r.last < n)
+
+-- every model has the decisions before a place, or makes one of the negated ones true
+pub record Refusing (f : List (List ℕ)) (v : ℕ) (literals marks buffer : List ℕ) (place size : ℕ) : Type 0 where
+  pub room : size ≤ length buffer
+  pub known : (j : ℕ) → j < size → slice_index buffer j / 2 < v
+  pub either : (α : Assignment) → Models f α → Decided literals marks α place ⊎ SomeTrue α buffer 0 size

@@ -6,13 +6,18 @@
 ghost use Rattle.std.specs.Prelude.{◌≡◌, ◌+◌, ◌/◌, ◌<◌, ◌≤◌, true, length};
 ghost use Rattle.clauses.specs.Formulas.{negation};
 ghost use Rattle.clauses.specs.Stores.{formula_of, SoundS};
-ghost use Rattle.trail.specs.Trails.{OnTrail, Good, Jammed};
+ghost use Rattle.trail.specs.Trails.{OnTrail, Good, Jammed, Later};
 ghost use Rattle.propagation.specs.Looking.{Caused};
-ghost use Rattle.learning.specs.Turning.{Known, Follows, Forced, TurnSays};
+ghost use Rattle.learning.specs.Turning.{Known, Follows, Forced, TurnSays, RefusalSays};
 
 use clauses::{Store, negated};
 use propagation::Causes;
 use trail::Trail;
+
+// Of what was learned the better half is kept.
+mod forgetting;
+
+pub use forgetting::forget;
 
 // How the trail went back: to where the clause implies a literal, to the last decision, or to the
 // end, since there is none.
@@ -111,7 +116,9 @@ pub fn go_back(
     requires causes { Caused variables causes.now }
     requires known { Known variables clause.now }
     requires follows { Follows (formula_of problem.now) clause.now }
-    ensures { TurnSays (formula_of problem.now) variables trail.old trail.new result }
+    ensures says { TurnSays (formula_of problem.now) variables trail.old trail.new result }
+    ensures good { Good (formula_of problem.now) variables trail.new }
+    ensures later { Later trail.old trail.new }
 {
     if decision <= place && place < trail.len && trail.marks[decision] == 1 {
         let literal = negated(trail.literals[place]);
@@ -125,6 +132,44 @@ pub fn go_back(
     } else {
         Turn::End
     }
+}
+
+// The clause of the negated decisions: how many literals it has, and where the last decision stands.
+#[derive(Clone, Copy)]
+pub struct Refusal {
+    pub size: usize,
+    pub last: usize,
+}
+
+// Writes the clause of the negated decisions into a buffer, where no model has all of them; nothing
+// comes where there is no decision, or no room.
+pub fn refuse_decisions(
+    trail: &Trail,
+    variables: usize,
+    problem: &Store,
+    buffer: &mut [u32],
+) -> Option<Refusal>
+    requires good { Good (formula_of problem.now) variables trail.now }
+    requires jammed { Jammed (formula_of problem.now) trail.now }
+    ensures { RefusalSays (formula_of problem.now) variables trail.now.len buffer.new result }
+{
+    let mut size = 0;
+    let mut last = trail.len;
+    for place in 0..trail.len {
+        if trail.marks[place] != 1 {
+            continue;
+        }
+        if size >= buffer.len() {
+            return None;
+        }
+        buffer[size] = negated(trail.literals[place]);
+        size += 1;
+        last = place;
+    }
+    if last >= trail.len {
+        return None;
+    }
+    Some(Refusal { size, last })
 }
 
 // Keeps a clause that follows; false, and nothing changed, where there is no room.

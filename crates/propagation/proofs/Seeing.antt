@@ -3,8 +3,9 @@ use Rattle.std.proofs.Common.{◌≡◌, ℕ, ◌+◌, ◌-◌, ◌%◌, ◌<◌
 use Rattle.std.proofs.lemmas.Bool.{cases_eq, both_ways, not-true}
 use Rattle.clauses.specs.Formulas.{Assignment, value, negation, Models}
 use Rattle.clauses.specs.Stores.{from, to, Sound}
-use Rattle.clauses.proofs.Literals.{negation_half, value_negation}
-use Rattle.trail.specs.Trails.{IsTrueUnder, IsFalseUnder, Decided, Stuck, OnTrail, Held}
+use Rattle.clauses.proofs.Literals.{value_negation}
+use Rattle.trail.specs.Trails.{IsFalseUnder, Decided, Stuck, OnTrail, Held}
+use Rattle.trail.proofs.Assuming.{false_negation}
 use Rattle.propagation.specs.declared.Look.{Look}
 use Rattle.propagation.specs.declared.Look.TheVariants.{Replace, Implied, Conflict}
 use Rattle.propagation.specs.Looking.{OthersFalse, ScanSays, Differs, LookSays}
@@ -37,11 +38,9 @@ module _ (f : List (List ℕ)) (v : ℕ) (values spans words : List ℕ) (count 
 -- a model that has the decisions does not differ from the values
 module _ (f : List (List ℕ)) (v : ℕ) (values literals marks : List ℕ) (n : ℕ) (held : Held f v values literals marks n) where
   agrees : (α : Assignment) → Models f α → Decided literals marks α n → Differs values α → ⊥
-  unfolding negation
   agrees α m d x =
       let l : ℕ = x.literal in
-      let e : IsTrueUnder values (negation l) = ap (λ (y : ℕ). get_or values y 0) (negation_half l) ∙ x.is_false ∙ (let z : 2 - l % 2 ≡ 1 + negation l % 2 = omega arith in z) in
-      let o : OnTrail literals n (negation l) = held.stands (negation l) e in
+      let o : OnTrail literals n (negation l) = held.stands (negation l) (false_negation values l x.is_false) in
       let s : value α (get_or literals o.at 0) ≡ true = held.implied α m o.at o.high (λ q h. d q (omega (arith, o.high))) in
       let t : value α (negation l) ≡ true = sym (ap (value α) o.is) ∙ s in
       both_ways (value α l) (not-true (value α l) (sym (value_negation α l) ∙ t)) x.holds

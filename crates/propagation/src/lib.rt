@@ -5,7 +5,7 @@
 
 ghost use Rattle.std.specs.Prelude.{◌≡◌, ℕ, ◌+◌, ◌*◌, ◌/◌, ◌<◌, ◌≤◌, length, IfSome, slice_index};
 ghost use Rattle.clauses.specs.Stores.{from, to, formula_of, StoredS, SoundS};
-ghost use Rattle.trail.specs.Trails.{IsTrueUnder, Good, Jammed, rank};
+ghost use Rattle.trail.specs.Trails.{IsTrueUnder, Good, Jammed, Later, rank};
 ghost use Rattle.propagation.specs.Looking.{ReplacementSays, ScanSays, LookSays, Caused};
 
 use clauses::{Store, negated};
@@ -91,6 +91,14 @@ impl Watches<'_> {
     // More nodes than there are: no chain is longer.
     fn length(&self) -> usize {
         self.links.len()
+    }
+
+    // Has no clause watched any more.
+    pub fn detach_all(&mut self) {
+        let literals = self.heads.len();
+        for literal in 0..literals {
+            self.heads[literal] = 0;
+        }
     }
 
     // Has a clause watched by two of its literals.
@@ -248,6 +256,7 @@ pub fn examine(
     requires few { variables < 2147483648 }
     ensures good { Good (formula_of problem.now) variables trail.new }
     ensures falls { (budget : ℕ) → rank variables budget trail.new ≤ rank variables budget trail.old }
+    ensures later { Later trail.old trail.new }
     ensures causes { Caused variables causes.new }
     ensures jammed { result ≡ Outcome.Conflict → Jammed (formula_of problem.now) trail.new × (clause < base + learned.now.count) }
 {
@@ -302,6 +311,7 @@ fn visit(
     requires few { variables < 2147483648 }
     ensures good { Good (formula_of problem.now) variables trail.new }
     ensures falls { (budget : ℕ) → rank variables budget trail.new ≤ rank variables budget trail.old }
+    ensures later { Later trail.old trail.new }
     ensures causes { Caused variables causes.new }
     ensures conflict { IfSome result (λ clause. Jammed (formula_of problem.now) trail.new × (clause < base + learned.now.count)) }
 {
@@ -362,6 +372,7 @@ pub fn propagate(
     requires few { variables < 2147483648 }
     ensures good { Good (formula_of problem.now) variables trail.new }
     ensures falls { (budget : ℕ) → rank variables budget trail.new ≤ rank variables budget trail.old }
+    ensures later { Later trail.old trail.new }
     ensures causes { Caused variables causes.new }
     ensures conflict { IfSome result (λ clause. Jammed (formula_of problem.now) trail.new × (clause < base + learned.now.count)) }
 {

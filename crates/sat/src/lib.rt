@@ -1,22 +1,24 @@
-// Whether clauses have a model: one call on lent memory.
+// Whether clauses have a model, and which is the first: calls on lent memory. The literal 2x is the
+// variable x, and 2x + 1 its negation; the literals of a clause stand among the words, from the first of
+// its two spans up to the second.
 #![tactic(auto)]
 
 ghost use Rattle.std.specs.Prelude.{◌≡◌, ◌+◌, ◌*◌, ◌^◌, ◌<◌, ◌≤◌, true, false, length};
-ghost use Rattle.clauses.specs.Formulas.{Assignment, Models};
-ghost use Rattle.clauses.specs.Stores.{formula_of, StoredS};
-ghost use Rattle.trail.specs.Trails.{Good};
-ghost use Rattle.propagation.specs.Looking.{Caused};
-ghost use Rattle.analysis.specs.Marking.{NotedA};
-ghost use Rattle.order.specs.Orders.{Ordered};
-ghost use Rattle.solver.specs.Values.{assignment};
-ghost use Rattle.sat.specs.Promise.{floor_of, Clauses, AnswerPost, CodePost};
+ghost use Rattle.clauses.specs.Stores.{Stored};
+ghost use Rattle.solver.specs.Assumptions.{KnownAll};
+ghost use Rattle.sat.specs.Promise.{floor_of, AnswerPost, CodePost};
+ghost use Rattle.sat.specs.Under.{UnderPost, UnderCodePost, FirstPost, FirstCodePost};
 
-use analysis::Analysis;
 use clauses::Store;
-use order::{Order, clear};
-use propagation::{Causes, Watches};
-use solver::solve;
-use trail::Trail;
+use conflicts::Counters;
+
+// One question under assumptions.
+mod asking;
+// The first model.
+mod finding;
+
+pub use asking::ask_stored;
+pub use finding::first_stored;
 
 // What came of clauses: they have a model; they have none; or they are no clauses, or too little
 // memory was lent.
@@ -28,169 +30,48 @@ pub enum Answer {
     Few,
 }
 
-// Whether every span lies within the words, and every word is a literal of so many variables.
-fn is_stored(spans: &[u32], words: &[u32], variables: usize) -> bool
-    ensures yes { result ≡ true → Clauses variables spans.now words.now }
-    ensures no { result ≡ false → Clauses variables spans.now words.now → ⊥ }
+// What came of the question for the first model: it was found with so many questions.
+#[derive(Clone, Copy)]
+pub enum FirstAnswer {
+    First(usize),
+    None,
+    Bad,
+    Few,
+}
+
+// Whether the first spans and words are clauses of so many variables.
+fn is_stored(spans: &[u32], words: &[u32], count: usize, used: usize, variables: usize) -> bool
+    ensures yes { result ≡ true → Stored variables spans.now words.now count used }
+    ensures no { result ≡ false → Stored variables spans.now words.now count used → ⊥ }
 {
-    if words.len() > 0xffff_ffff {
+    if count > spans.len() / 2 || used > words.len() || used > 0xffff_ffff {
         return false;
     }
-    for place in 0..words.len() {
+    for place in 0..used {
         if (words[place] / 2) as usize >= variables {
             return false;
         }
     }
-    for clause in 0..spans.len() / 2 {
+    for clause in 0..count {
         let from = spans[2 * clause];
         let to = spans[2 * clause + 1];
-        if from > to || to as usize > words.len() {
+        if from > to || to as usize > used {
             return false;
         }
     }
     true
 }
 
-// Solves with memory for all but the watches and what is learned, which get the rest.
-fn solve_watched(
-    trail: &mut Trail,
-    variables: usize,
-    causes: &mut Causes,
-    analysis: &mut Analysis,
-    order: &mut Order,
-    phases: &mut [u32],
-    problem: &Store,
-    decided: usize,
-    work: &mut [u32],
-) -> bool
-    requires good { Good (formula_of problem.now) variables trail.old }
-    requires stored { StoredS variables problem.now }
-    requires causes { Caused variables causes.old }
-    requires noted { NotedA variables analysis.old }
-    requires ordered { Ordered (length order.old.scores.now) order.old }
-    requires few { variables < 2147483647 }
-    requires room { 2 * variables + 4 * problem.now.count ≤ length work.old }
-    ensures model { result ≡ true → Models (formula_of problem.now) (assignment trail.new.values.now) }
-    ensures size { result ≡ true → length trail.new.values.now ≡ variables }
-    ensures none { result ≡ false → (α : Assignment) → Models (formula_of problem.now) α → ⊥ }
+// Whether all are literals of so many variables.
+fn all_known(assumptions: &[u32], variables: usize) -> bool
+    ensures yes { result ≡ true → KnownAll variables assumptions.now }
+    ensures no { result ≡ false → KnownAll variables assumptions.now → ⊥ }
 {
-    let base = problem.count;
-    let (heads, rest) = work.split_at_mut(2 * variables);
-    let most = (rest.len() - 4 * base) / 16;
-    let (links, rest) = rest.split_at_mut(4 * (base + most));
-    let (spans, words) = rest.split_at_mut(2 * most);
-    clear(heads);
-    clear(links);
-    let mut watches = Watches { heads, links };
-    let mut learned = Store {
-        spans,
-        words,
-        count: 0,
-        used: 0,
-    };
-    solve(
-        trail,
-        variables,
-        causes,
-        &mut watches,
-        analysis,
-        order,
-        phases,
-        problem,
-        &mut learned,
-        base,
-        decided,
-    )
-}
-
-// Solves with memory for the trail and its causes; the rest is divided further.
-fn solve_ordered(
-    trail: &mut Trail,
-    variables: usize,
-    causes: &mut Causes,
-    problem: &Store,
-    decided: usize,
-    work: &mut [u32],
-) -> bool
-    requires good { Good (formula_of problem.now) variables trail.old }
-    requires stored { StoredS variables problem.now }
-    requires causes { Caused variables causes.old }
-    requires few { variables < 2147483647 }
-    requires room { 9 * variables + 4 * problem.now.count ≤ length work.old }
-    ensures model { result ≡ true → Models (formula_of problem.now) (assignment trail.new.values.now) }
-    ensures size { result ≡ true → length trail.new.values.now ≡ variables }
-    ensures none { result ≡ false → (α : Assignment) → Models (formula_of problem.now) α → ⊥ }
-{
-    let (seen, rest) = work.split_at_mut(variables);
-    let (touched, rest) = rest.split_at_mut(variables);
-    let (buffer, rest) = rest.split_at_mut(variables);
-    let (scores, rest) = rest.split_at_mut(variables);
-    let (heap, rest) = rest.split_at_mut(variables);
-    let (places, rest) = rest.split_at_mut(variables);
-    let (phases, rest) = rest.split_at_mut(variables);
-    clear(seen);
-    clear(phases);
-    let first = decided.min(variables);
-    let mut order = Order::new(scores, heap, places, first);
-    let mut analysis = Analysis {
-        seen,
-        touched,
-        buffer,
-        count: 0,
-        open: 0,
-        size: 0,
-    };
-    solve_watched(
-        trail,
-        variables,
-        causes,
-        &mut analysis,
-        &mut order,
-        phases,
-        problem,
-        first,
-        rest,
-    )
-}
-
-// Solves clauses; all memory is divided up from the work that is lent.
-fn solve_stored(
-    problem: &Store,
-    variables: usize,
-    values: &mut [u32],
-    decided: usize,
-    work: &mut [u32],
-) -> bool
-    requires stored { StoredS variables problem.now }
-    requires size { length values.old ≡ variables }
-    requires few { variables < 2147483647 }
-    requires room { 15 * variables + 4 * problem.now.count ≤ length work.old }
-    ensures model { result ≡ true → Models (formula_of problem.now) (assignment values.new) }
-    ensures none { result ≡ false → (α : Assignment) → Models (formula_of problem.now) α → ⊥ }
-    ensures same { result ≡ false → values.new ≡ values.old }
-{
-    let (known, rest) = work.split_at_mut(variables);
-    let (literals, rest) = rest.split_at_mut(variables);
-    let (marks, rest) = rest.split_at_mut(variables);
-    let (reasons, rest) = rest.split_at_mut(variables);
-    let (levels, rest) = rest.split_at_mut(variables);
-    let (places, rest) = rest.split_at_mut(variables);
-    clear(known);
-    let mut trail = Trail {
-        values: known,
-        literals,
-        marks,
-        len: 0,
-    };
-    let mut causes = Causes {
-        reasons,
-        levels,
-        places,
-    };
-    if !solve_ordered(&mut trail, variables, &mut causes, problem, decided, rest) {
-        return false;
+    for index in 0..assumptions.len() {
+        if (assumptions[index] / 2) as usize >= variables {
+            return false;
+        }
     }
-    values.copy_from_slice(trail.values);
     true
 }
 
@@ -200,6 +81,22 @@ pub fn floor(variables: usize, clauses: usize) -> usize
     ensures { result ≡ floor_of variables clauses }
 {
     15 * variables + 4 * clauses
+}
+
+// Writes what was counted, as far as there is room: conflicts, decisions, fresh starts, times that
+// clauses were forgotten, times that analysis found no clause, clauses that found no room.
+fn write_counters(counters: &Counters, counts: &mut [u64]) {
+    let all = [
+        counters.conflicts,
+        counters.decisions,
+        counters.restarts,
+        counters.reductions,
+        counters.refusals,
+        counters.unkept,
+    ];
+    for index in 0..counts.len().min(6) {
+        counts[index] = all[index];
+    }
 }
 
 // Whether clauses have a model. The literals of a clause stand among the words, from the first of its
@@ -218,21 +115,30 @@ pub fn ask(
     ensures answer { AnswerPost spans.old words.old values.old values.new (length work.old) result }
 {
     let variables = values.len();
-    if variables >= 0x7fff_ffff || !is_stored(spans, words, variables) {
+    let count = spans.len() / 2;
+    let used = words.len();
+    if variables >= 0x7fff_ffff || !is_stored(spans, words, count, used, variables) {
         return Answer::Bad;
     }
-    let count = spans.len() / 2;
     if work.len() < floor(variables, count) {
         return Answer::Few;
     }
-    let used = words.len();
     let problem = Store {
         spans,
         words,
         count,
         used,
     };
-    if solve_stored(&problem, variables, values, decided, work) {
+    let mut counters = Counters::default();
+    if ask_stored(
+        &problem,
+        variables,
+        values,
+        decided,
+        &[],
+        work,
+        &mut counters,
+    ) {
         Answer::Model
     } else {
         Answer::None
@@ -256,5 +162,156 @@ pub fn sat_ask(
         Answer::Model => 1,
         Answer::Bad => 2,
         Answer::Few => 3,
+    }
+}
+
+// Whether clauses have a model in which the assumptions are true. There are as many variables as
+// values, of which the first so many are decided first. Where there is a model, the values become 1 for
+// true and 2 for false.
+pub fn ask_under(
+    spans: &mut [u32],
+    words: &mut [u32],
+    values: &mut [u32],
+    decided: usize,
+    assumptions: &[u32],
+    counts: &mut [u64],
+    work: &mut [u32],
+) -> Answer
+    ensures spans { spans.new ≡ spans.old }
+    ensures words { words.new ≡ words.old }
+    ensures answer { UnderPost spans.old words.old assumptions.now values.old values.new (length work.old) result }
+{
+    let variables = values.len();
+    let count = spans.len() / 2;
+    let used = words.len();
+    if variables >= 0x7fff_ffff || !is_stored(spans, words, count, used, variables) {
+        return Answer::Bad;
+    }
+    if !all_known(assumptions, variables) {
+        return Answer::Bad;
+    }
+    if work.len() < floor(variables, count) {
+        return Answer::Few;
+    }
+    let problem = Store {
+        spans,
+        words,
+        count,
+        used,
+    };
+    let mut counters = Counters::default();
+    let found = ask_stored(
+        &problem,
+        variables,
+        values,
+        decided,
+        assumptions,
+        work,
+        &mut counters,
+    );
+    write_counters(&counters, counts);
+    if found { Answer::Model } else { Answer::None }
+}
+
+// The answer as a number: 0 where there is none, 1 a model, 2 bad clauses or assumptions, 3 few words.
+pub fn sat_ask_under(
+    spans: &mut [u32],
+    words: &mut [u32],
+    values: &mut [u32],
+    decided: usize,
+    assumptions: &[u32],
+    counts: &mut [u64],
+    work: &mut [u32],
+) -> u32
+    ensures spans { spans.new ≡ spans.old }
+    ensures words { words.new ≡ words.old }
+    ensures code { UnderCodePost spans.old words.old assumptions.now values.old values.new (length work.old) result }
+{
+    match ask_under(spans, words, values, decided, assumptions, counts, work) {
+        Answer::None => 0,
+        Answer::Model => 1,
+        Answer::Bad => 2,
+        Answer::Few => 3,
+    }
+}
+
+// The first model of clauses by the variables of a range, in their sequence, false first. The first so
+// many spans and words are the clauses, and there must be room for a clause of one literal more for
+// each variable of the range, which is written there.
+pub fn first(
+    spans: &mut [u32],
+    words: &mut [u32],
+    count: usize,
+    used: usize,
+    values: &mut [u32],
+    decided: usize,
+    low: usize,
+    high: usize,
+    counts: &mut [u64],
+    work: &mut [u32],
+) -> FirstAnswer
+    ensures { FirstPost spans.old words.old count used low high values.old values.new (length work.old) result }
+{
+    let variables = values.len();
+    if variables >= 0x7fff_ffff || high > variables {
+        return FirstAnswer::Bad;
+    }
+    if !is_stored(spans, words, count, used, variables) {
+        return FirstAnswer::Bad;
+    }
+    let more = high.saturating_sub(low);
+    if more > spans.len() / 2 - count || more > words.len() - used || more > 0xffff_ffff - used {
+        return FirstAnswer::Few;
+    }
+    if work.len() < floor(variables, count) {
+        return FirstAnswer::Few;
+    }
+    let mut problem = Store {
+        spans,
+        words,
+        count,
+        used,
+    };
+    let mut counters = Counters::default();
+    let found = first_stored(
+        &mut problem,
+        variables,
+        values,
+        decided,
+        low,
+        high,
+        work,
+        &mut counters,
+    );
+    write_counters(&counters, counts);
+    match found {
+        Some(questions) => FirstAnswer::First(questions),
+        None => FirstAnswer::None,
+    }
+}
+
+// The answer as a number: 0 where there is none, 1 bad clauses, 2 few words, and else how many
+// questions found the first model, plus 2.
+pub fn sat_first(
+    spans: &mut [u32],
+    words: &mut [u32],
+    count: usize,
+    used: usize,
+    values: &mut [u32],
+    decided: usize,
+    low: usize,
+    high: usize,
+    counts: &mut [u64],
+    work: &mut [u32],
+) -> u64
+    ensures { FirstCodePost spans.old words.old count used low high values.old values.new (length work.old) result }
+{
+    match first(
+        spans, words, count, used, values, decided, low, high, counts, work,
+    ) {
+        FirstAnswer::None => 0,
+        FirstAnswer::Bad => 1,
+        FirstAnswer::Few => 2,
+        FirstAnswer::First(questions) => (questions as u64).saturating_add(2),
     }
 }

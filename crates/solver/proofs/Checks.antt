@@ -1,13 +1,11 @@
 -- Values that make a literal of each clause true are a model; those that do not are in no model's way.
-use Rattle.std.proofs.Common.{◌≡◌, ℕ, ◌+◌, ◌-◌, ◌/◌, ◌%◌, ◌<◌, ◌≤◌, Bool, true, cond, not, eqb, List, length, get_or, take, drop, sym, ap, ◌∙◌, subst, inl, inr, arith}
-use Rattle.std.proofs.lemmas.List.{length-take, length-drop, get_or-take, get_or-drop}
+use Rattle.std.proofs.Common.{◌≡◌, ℕ, ◌/◌, ◌%◌, ◌<◌, ◌≤◌, Bool, true, cond, not, eqb, List, get_or, ap, ◌∙◌, inl, inr, arith}
 use Rattle.std.proofs.lemmas.Bool.{cases_eq, eq-eqb, ne_eqb}
-use Rattle.clauses.specs.Formulas.{Assignment, value, Models}
+use Rattle.clauses.specs.Formulas.{Assignment, value}
 use Rattle.clauses.specs.Stores.{from, to, SomeTrue, Sound}
 use Rattle.trail.specs.Trails.{IsTrueUnder, Stuck, Held}
 use Rattle.propagation.specs.Looking.{Differs}
 use Rattle.propagation.proofs.Seeing.{stuck}
-use Rattle.learning.specs.Turning.{Known, Follows}
 use Rattle.solver.specs.Values.{assignment, Full, NoneTrue}
 
 pub true_under : (values : List ℕ) (l : ℕ) → IsTrueUnder values l → value (assignment values) l ≡ true
@@ -33,17 +31,3 @@ jammed f v values literals marks n spans words count used k held full sound h no
         let off : IsTrueUnder values l → ⊥ = none t.at t.low t.high in
         let small : get_or values (l / 2) 0 ≤ 2 = held.small (l / 2) in
         record { literal = l; is_false = omega (arith, ne, off, small); holds = t.holds }
-
--- the first so many literals of a buffer as a clause
-module _ (buffer : List ℕ) (size : ℕ) (room : size ≤ length buffer) where
-  long : length (take (size - 0) (drop 0 buffer)) ≡ size
-  long = length-take (size - 0) (drop 0 buffer) ∙ (let e = length-drop 0 buffer in omega arith)
-
-  at : (j : ℕ) → j < size → get_or (take (size - 0) (drop 0 buffer)) j 0 ≡ get_or buffer j 0
-  at j h = get_or-take (size - 0) (drop 0 buffer) j 0 (omega arith) ∙ get_or-drop 0 buffer j 0 ∙ (let e : 0 + j ≡ j = omega arith in ap (λ (x : ℕ). get_or buffer x 0) e)
-
-  pub part_known : (v : ℕ) → ((j : ℕ) → j < size → get_or buffer j 0 / 2 < v) → Known v (take (size - 0) (drop 0 buffer))
-  part_known v known j h = let l : j < size = omega (arith, long) in subst (λ (x : ℕ). x / 2 < v) (sym (at j l)) (known j l)
-
-  pub part_follows : (f : List (List ℕ)) → ((α : Assignment) → Models f α → SomeTrue α buffer 0 size) → Follows f (take (size - 0) (drop 0 buffer))
-  part_follows f follows α m = let t = follows α m in record { at = t.at; inside = omega (arith, long, t.high); holds = ap (value α) (at t.at t.high) ∙ t.holds }

@@ -1,2 +1,4 @@
 -- Values that are a model.
 pub mod Values
+-- Assumptions.
+pub mod Assumptions

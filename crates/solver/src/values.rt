@@ -1,5 +1,5 @@
 // Which variable is to be decided next; and when all have a value, whether these are a model.
-ghost use Rattle.std.specs.Prelude.{◌≡◌, ◌<◌, true, false, length};
+ghost use Rattle.std.specs.Prelude.{◌≡◌, ◌<◌, ◌≤◌, true, false, length};
 ghost use Rattle.clauses.specs.Formulas.{Models};
 ghost use Rattle.clauses.specs.Stores.{from, to, formula_of, StoredS, SomeTrue};
 ghost use Rattle.trail.specs.Trails.{Good, Jammed};
@@ -10,13 +10,13 @@ use clauses::Store;
 use order::Order;
 use trail::Trail;
 
-// A variable without a value.
-fn open_variable(trail: &Trail, variables: usize) -> Option<u32>
-    requires size { length trail.now.values.now ≡ variables }
-    requires few { variables < 2147483647 }
-    ensures { OpenSays variables trail.now.values.now result }
+// The first of the first so many variables that has no value.
+pub fn open_variable(trail: &Trail, most: usize) -> Option<u32>
+    requires within { most ≤ length trail.now.values.now }
+    requires few { most < 2147483647 }
+    ensures { OpenSays most trail.now.values.now result }
 {
-    for variable in 0..variables {
+    for variable in 0..most {
         if trail.values[variable] == 0 {
             return Some(variable as u32);
         }

@@ -1,5 +1,5 @@
 -- The trail: literals that hold, in the order in which they came; a mark of 1 is a decision.
-use Rattle.std.specs.Prelude.{◌≡◌, ℕ, zero, suc, ◌+◌, ◌-◌, ◌*◌, ◌/◌, ◌%◌, ◌<◌, ◌≤◌, true, cond, List, length, count_by, ◌==◌, nat_eq, nat_lt, slice_index, slice_index_or}
+use Rattle.std.specs.Prelude.{◌≡◌, ℕ, zero, suc, ◌+◌, ◌-◌, ◌*◌, ◌/◌, ◌%◌, ◌<◌, ◌≤◌, true, cond, ◌⊎◌, List, length, count_by, ◌==◌, nat_eq, nat_lt, slice_index, slice_index_or}
 use Rattle.clauses.specs.Formulas.{Assignment, value, Models}
 use Rattle.trail.specs.declared.Trail.{Trail}
 
@@ -39,6 +39,20 @@ pub record Held (f : List (List ℕ)) (v : ℕ) (values literals marks : List �
   pub stands : (l : ℕ) → IsTrueUnder values l → OnTrail literals n l
   pub implied : (α : Assignment) → Models f α → (p : ℕ) → p < n → Decided literals marks α (p + 1) → value α (slice_index literals p) ≡ true
 
+-- a decision of another trail that is still one, with the same literals up to it
+pub record Stayed (literals marks : List ℕ) (n : ℕ) (literals' : List ℕ) (q : ℕ) : Type 0 where
+  pub high : q < n
+  pub decided : slice_index_or marks q 0 ≡ 1
+  pub same : (p : ℕ) → p ≤ q → slice_index literals' p ≡ slice_index literals p
+
+-- no decision has come: each was one before
+pub record FollowsOn (literals marks : List ℕ) (n : ℕ) (literals' marks' : List ℕ) (n' : ℕ) : Type 0 where
+  pub each : (q : ℕ) → q < n' → slice_index marks' q ≡ 1 → Stayed literals marks n literals' q
+
+-- each decision is one of the first k assumptions, or all of these stand before it
+pub record Assumed (assumptions : List ℕ) (k : ℕ) (literals marks : List ℕ) (n : ℕ) : Type 0 where
+  pub each : (q : ℕ) → q < n → slice_index marks q ≡ 1 → OnTrail assumptions k (slice_index literals q) ⊎ ((i : ℕ) → i < k → OnTrail literals q (slice_index assumptions i))
+
 -- the trail as a number in base 3, its first place the highest: implied 0, decided 1, not there 2; above all places how often it may yet be begun anew
 unfoldable pub digit : List ℕ → ℕ → ℕ → ℕ
 digit marks n p = cond (nat_lt p n) (cond (slice_index marks p == 1) 1 0) 2
@@ -53,6 +67,12 @@ Good f v t = Held f v t.values.now t.literals.now t.marks.now t.len
 
 abbrev pub Jammed : List (List ℕ) → Trail → Type 0
 Jammed f t = Stuck f t.literals.now t.marks.now t.len
+
+abbrev pub Later : Trail → Trail → Type 0
+Later s t = FollowsOn s.literals.now s.marks.now s.len t.literals.now t.marks.now t.len
+
+abbrev pub AssumedT : List ℕ → ℕ → Trail → Type 0
+AssumedT assumptions k t = Assumed assumptions k t.literals.now t.marks.now t.len
 
 abbrev pub rank : ℕ → ℕ → Trail → ℕ
 rank v budget t = number budget t.marks.now t.len v

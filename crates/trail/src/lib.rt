@@ -5,7 +5,7 @@
 ghost use Rattle.std.specs.Prelude.{◌≡◌, ℕ, ◌+◌, ◌-◌, ◌/◌, ◌%◌, ◌<◌, ◌≤◌, true, false, length, ◌==◌, slice_index, slice_set};
 ghost use Rattle.clauses.specs.Formulas.{Assignment, value, negation, Models};
 ghost use Rattle.clauses.specs.Stores.{formula_of};
-ghost use Rattle.trail.specs.Trails.{Decided, Good, Jammed, rank};
+ghost use Rattle.trail.specs.Trails.{Decided, Good, Jammed, Later, rank};
 
 use clauses::{Store, negated};
 
@@ -75,6 +75,7 @@ impl Trail<'_> {
         requires implied { (α : Assignment) → Models (formula_of problem.now) α → Decided self.old.literals.now self.old.marks.now α self.old.len → value α literal ≡ true }
         ensures good { Good (formula_of problem.now) variables self.new }
         ensures less { (budget : ℕ) → rank variables budget self.new < rank variables budget self.old }
+        ensures later { Later self.old self.new }
         ensures len { self.new.len ≡ self.old.len + 1 }
         ensures values { self.new.values.now ≡ slice_set self.old.values.now (literal / 2) (1 + literal % 2) }
     {
@@ -88,6 +89,8 @@ impl Trail<'_> {
         requires free { slice_index self.old.values.now (literal / 2) ≡ 0 }
         ensures good { Good (formula_of problem.now) variables self.new }
         ensures less { (budget : ℕ) → rank variables budget self.new < rank variables budget self.old }
+        ensures literals { self.new.literals.now ≡ slice_set self.old.literals.now self.old.len literal }
+        ensures marks { self.new.marks.now ≡ slice_set self.old.marks.now self.old.len 1 }
         ensures len { self.new.len ≡ self.old.len + 1 }
     {
         self.put(literal, 1);
@@ -120,6 +123,7 @@ impl Trail<'_> {
         requires forced { (α : Assignment) → Models (formula_of problem.now) α → Decided self.old.literals.now self.old.marks.now α decision → value α (negation (slice_index self.old.literals.now place)) ≡ true }
         ensures good { Good (formula_of problem.now) variables self.new }
         ensures less { (budget : ℕ) → rank variables budget self.new < rank variables budget self.old }
+        ensures later { Later self.old self.new }
         ensures len { self.new.len ≡ decision + 1 }
     {
         let literal = negated(self.literals[place]);
@@ -127,11 +131,14 @@ impl Trail<'_> {
         self.put(literal, 0);
     }
 
-    // Goes back to the last decision and turns it round; false where there is none, and so no model.
+    // Goes back to the last decision and turns it round; false where there is none, and so no model;
+    // then nothing is left on the trail.
     pub fn flip(&mut self, problem: &Store, variables: usize) -> bool
         requires good { Good (formula_of problem.now) variables self.old }
         requires jammed { Jammed (formula_of problem.now) self.old }
         ensures good { result ≡ true → Good (formula_of problem.now) variables self.new }
+        ensures still { Good (formula_of problem.now) variables self.new }
+        ensures later { Later self.old self.new }
         ensures less { result ≡ true → (budget : ℕ) → rank variables budget self.new < rank variables budget self.old }
         ensures none { result ≡ false → (α : Assignment) → Models (formula_of problem.now) α → ⊥ }
     {

@@ -17,5 +17,7 @@ returns c =
     record {
       good = held_more _ _ _ _ _ _ _ _ _ _ _ i c.requires.free c.requires.known p.values p.literals p.marks _ p.len (λ α m d given. given refl);
       less = λ budget. falls_by_one_more budget _ _ _ _ p.marks _ _ p.len r;
+      literals = p.literals;
+      marks = p.marks;
       len = p.len;
     }

@@ -5,6 +5,7 @@ use Rattle.clauses.specs.Formulas.{value}
 use Rattle.clauses.proofs.Literals.{negation_half}
 use Rattle.trail.proofs.Numbers.{falls_at_decision}
 use Rattle.trail.proofs.Holding.{held_less, held_more, last_known, stuck_less, turned_round}
+use Rattle.trail.proofs.Assuming.{later_back, later_put}
 use Rattle.trail.proofs.Trail.flip.Goals as goal
 use Rattle.trail.proofs.Trail.flip.Goals.{After-negated}
 
@@ -43,6 +44,9 @@ returns-then-self-eq1 c =
     record {
       good = λ _. held_more _ _ _ _ _ _ _ _ _ _ _ (held_less _ _ _ _ _ _ _ (one_more d) i.good _ refl) (free d) (known d) p.values p.literals p.marks _ p.len
           (λ α m decided _. ap (value α) c.negated.ensures ∙ turned_round _ _ _ _ _ (one_more d) i.jammed α m decided);
+      still = held_more _ _ _ _ _ _ _ _ _ _ _ (held_less _ _ _ _ _ _ _ (one_more d) i.good _ refl) (free d) (known d) p.values p.literals p.marks _ p.len
+          (λ α m decided _. ap (value α) c.negated.ensures ∙ turned_round _ _ _ _ _ (one_more d) i.jammed α m decided);
+      later = later_put _ _ _ _ _ _ _ _ (omega (arith, i.low)) (omega (arith, c.requires.good.marks_room, c.requires.good.room, i.low)) (p.literals ∙ ap (λ (xs : List ℕ). set xs (t.len - 1) c.negated.result) i.literals) (p.marks ∙ ap (λ (xs : List ℕ). set xs (t.len - 1) 0) i.marks) p.len;
       less = λ _ budget. falls_at_decision budget _ _ _ 0 (p.marks ∙ ap (λ (xs : List ℕ). set xs (t.len - 1) 0) i.marks) _ _ _ refl p.len (omega arith)
           (sym (ap (λ (xs : List ℕ). get_or xs (t.len - 1) 0) i.marks) ∙ c.if-self-eq1.true) (omega (arith, i.low)) (omega arith);
       none = λ e. absurd (true≢false e);
@@ -65,6 +69,8 @@ pub returns : goal.returns
 returns c =
     record {
       good = λ e. absurd (true≢false (sym e));
+      still = c.loop-self.invariant.good;
+      later = later_back _ _ _ _ _ _ c.loop-self.invariant.literals c.loop-self.invariant.marks c.loop-self.invariant.low;
       less = λ e. absurd (true≢false (sym e));
       none = λ _ α m. c.loop-self.invariant.jammed α m (λ q h. absurd (omega arith));
     }

@@ -1,6 +1,7 @@
 use Rattle.std.proofs.Common.{refl, arith}
 use Rattle.trail.proofs.Numbers.{falls_by_one_more}
 use Rattle.trail.proofs.Holding.{room_for_one, held_more}
+use Rattle.trail.proofs.Assuming.{later_put}
 use Rattle.trail.proofs.Trail.imply.Goals as goal
 
 pub put-requires : goal.put-requires
@@ -17,6 +18,7 @@ returns c =
     record {
       good = held_more _ _ _ _ _ _ _ _ _ _ _ i c.requires.free c.requires.known p.values p.literals p.marks _ p.len (λ α m d _. c.requires.implied α m d);
       less = λ budget. falls_by_one_more budget _ _ _ _ p.marks _ _ p.len r;
+      later = later_put _ _ _ _ _ _ _ _ (omega arith) (omega (arith, i.marks_room)) p.literals p.marks p.len;
       values = p.values;
       len = p.len;
     }

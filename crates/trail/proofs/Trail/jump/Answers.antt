@@ -3,6 +3,7 @@ use Rattle.clauses.specs.Formulas.{value}
 use Rattle.clauses.proofs.Literals.{negation_half}
 use Rattle.trail.proofs.Numbers.{falls_at_decision}
 use Rattle.trail.proofs.Holding.{room_for_one, held_more}
+use Rattle.trail.proofs.Assuming.{later_put}
 use Rattle.trail.proofs.Trail.jump.Goals as goal
 use Rattle.trail.proofs.Trail.jump.Goals.{After-pop_to}
 
@@ -35,5 +36,6 @@ returns c =
       good = held_more _ _ _ _ _ _ _ _ _ _ _ e.good (free d) (known d) p.values p.literals p.marks _ p.len
           (λ α m decided _. ap (value α) c.negated-literal.ensures ∙ c.requires.forced α m (λ q h one. sym (ap (λ (xs : List ℕ). value α (get_or xs q 0)) e.literals) ∙ decided q (omega (arith, e.len)) (ap (λ (xs : List ℕ). get_or xs q 0) e.marks ∙ one)));
       less = λ budget. falls_at_decision budget _ _ _ 0 (p.marks ∙ ap (λ (xs : List ℕ). set xs c.pop_to.new.self.len 0) e.marks) _ _ _ refl p.len (omega (arith, e.len, c.requires.good.marks_room, room d)) (ap (λ (y : ℕ). get_or c.args.self.now.marks.now y 0) e.len ∙ c.requires.decided) (omega (arith, e.len, c.requires.order, c.requires.within)) (room d);
+      later = later_put _ _ _ _ _ _ _ _ (omega (arith, c.requires.order, c.requires.within)) (omega (arith, c.requires.good.marks_room, c.requires.good.room, c.requires.order, c.requires.within)) (p.literals ∙ ap (λ (xs : List ℕ). set xs c.pop_to.new.self.len c.negated-literal.result) e.literals ∙ ap (λ (y : ℕ). set c.args.self.now.literals.now y c.negated-literal.result) e.len) (p.marks ∙ ap (λ (xs : List ℕ). set xs c.pop_to.new.self.len 0) e.marks ∙ ap (λ (y : ℕ). set c.args.self.now.marks.now y 0) e.len) (p.len ∙ ap (λ (y : ℕ). y + 1) e.len);
       len = p.len ∙ ap (λ (y : ℕ). y + 1) e.len;
     }

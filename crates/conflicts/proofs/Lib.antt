@@ -1,0 +1,2 @@
+-- the first literals of a buffer as a clause
+pub mod Parts

@@ -1,0 +1,2 @@
+-- variables are settled one by one
+pub mod Settling

@@ -1,0 +1,2 @@
+-- First models.
+pub mod Firsts

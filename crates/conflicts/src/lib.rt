@@ -10,7 +10,7 @@ ghost use Rattle.trail.specs.Trails.{Good, Jammed, Later, rank};
 ghost use Rattle.propagation.specs.Looking.{Caused};
 ghost use Rattle.analysis.specs.Marking.{NotedA, Rooted};
 ghost use Rattle.order.specs.Orders.{Ordered};
-ghost use Rattle.learning.specs.Turning.{Known, Follows, ClauseFollows};
+ghost use Rattle.learning.specs.Turning.{Known, Follows, Fallen, ClauseFollows};
 
 use analysis::Analysis;
 use clauses::{Store, negated};
@@ -252,6 +252,25 @@ fn go_on(
     }
 }
 
+// Turns the last decision round, and learns nothing; false where there is none, and so no model.
+pub fn flip_last(trail: &mut Trail, variables: usize, causes: &mut Causes, problem: &Store) -> bool
+    requires good { Good (formula_of problem.now) variables trail.old }
+    requires jammed { Jammed (formula_of problem.now) trail.old }
+    requires causes { Caused variables causes.old }
+    requires few { variables < 2147483647 }
+    ensures fallen { result ≡ true → Fallen (formula_of problem.now) variables trail.old trail.new }
+    ensures still { Good (formula_of problem.now) variables trail.new }
+    ensures later { Later trail.old trail.new }
+    ensures none { result ≡ false → (α : Assignment) → Models (formula_of problem.now) α → ⊥ }
+    ensures causes { Caused variables causes.new }
+{
+    if !trail.flip(problem, variables) {
+        return false;
+    }
+    settle(trail, variables, causes, problem, 0);
+    true
+}
+
 // Turns the last decision round, by the clause that refuses all of them; false where there is none,
 // and so no model.
 pub fn turn_round(
@@ -283,11 +302,7 @@ pub fn turn_round(
     ensures ordered { Ordered (length order.new.scores.now) order.new }
 {
     let Some(refusal) = refuse_decisions(trail, variables, problem, buffer) else {
-        if !trail.flip(problem, variables) {
-            return false;
-        }
-        settle(trail, variables, causes, problem, 0);
-        return true;
+        return flip_last(trail, variables, causes, problem);
     };
     counters.refusals = counters.refusals.saturating_add(1);
     let size = refusal.size;

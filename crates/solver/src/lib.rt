@@ -15,7 +15,9 @@ ghost use Rattle.solver.specs.Assumptions.{KnownAll, HoldsAll, NoneWith};
 
 use analysis::Analysis;
 use clauses::Store;
-use conflicts::{Counters, Uses, first_decision, learn, level_before, release, turn_round};
+use conflicts::{
+    Counters, Uses, first_decision, flip_last, learn, level_before, release, turn_round,
+};
 use order::Order;
 use propagation::{Causes, Outcome, Watches, examine, propagate};
 use trail::Trail;
@@ -141,7 +143,7 @@ fn enter(
         clause as u32,
         one,
     ) {
-        Outcome::Conflict => return trail.flip(problem, variables),
+        Outcome::Conflict => return flip_last(trail, variables, causes, problem),
         Outcome::Moves(literal) => watches.attach(clause as u32, one, literal),
         Outcome::Stays => watches.attach(clause as u32, one, other),
     }
@@ -327,7 +329,8 @@ pub fn solve_under(
             }
             Step::Complete => {}
         }
-        if is_model(trail, variables, problem) {
+        let found = is_model(trail, variables, problem);
+        if found {
             pace.start = trail.len;
             return true;
         }

@@ -47,7 +47,7 @@ impl Pace {
     pub fn endless() -> Pace {
         let mut pace = Pace::new(0);
         pace.most = usize::MAX;
-        pace.patience = u32::MAX;
+        pace.unkept = u64::MAX;
         pace
     }
 

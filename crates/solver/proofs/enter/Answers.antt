@@ -11,5 +11,5 @@ returns-then-from-to c =
       causes = c.requires.causes;
     }
 
-pub flip-requires : goal.flip-requires
-flip-requires c = let e = c.examine.ensures in record { good = e.good; jammed = (c.in-Conflict.ensures.jammed refl).0 }
+pub flip_last-requires : goal.flip_last-requires
+flip_last-requires c = let e = c.examine.ensures in record { good = e.good; jammed = (c.in-Conflict.ensures.jammed refl).0; causes = e.causes; few = c.requires.few }

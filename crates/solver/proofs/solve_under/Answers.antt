@@ -1,4 +1,4 @@
-use Rattle.std.proofs.Common.{◌+◌, false, refl, inl, inr, ⊎_elim, arith}
+use Rattle.std.proofs.Common.{◌+◌, false, refl, inl, inr, ⊎_elim, arith, rules}
 use Rattle.std.proofs.lemmas.Bool.{both_ways, true≢false}
 use Rattle.trail.proofs.Numbers.{falls_by_budget}
 use Rattle.trail.proofs.Assuming.{assumed_none, assumed_later}
@@ -81,11 +81,11 @@ decide_on-requires c =
       assumed = assumed_later _ _ _ _ _ _ _ _ c.loop-conflict.invariant.assumed e.later;
     }
 
-pub returns-then-is_model : goal.returns-then-is_model
-returns-then-is_model c =
+pub returns-then-found : goal.returns-then-found
+returns-then-found c =
     let e = c.in-Complete.ensures in
     record {
-      model = λ _. c.if-is_model.ensures.model refl;
+      model = λ _. search rules;
       holds = λ _ i h. true_under _ _ (e.step.holds i (omega (arith, c.loop-conflict.invariant.firm)));
       wished = λ _. ⊎_elim (λ all. inl (λ i h. true_under _ _ (e.step.holds i (omega (arith, all))))) (λ none. inr none) c.loop-conflict.invariant.wished;
       none = λ e. absurd (true≢false e);
@@ -101,7 +101,7 @@ turn_round-requires c =
     let e = c.in-Complete.ensures in
     record {
       good = e.step.good;
-      jammed = c.if-is_model.ensures.jammed refl;
+      jammed = search rules;
       learned = c.loop-conflict.invariant.learned;
       causes = e.causes;
       ordered = e.ordered;

@@ -2,3 +2,5 @@
 pub mod Copies
 -- literals and models
 pub mod Literals
+-- stores that only grow
+pub mod Growing

@@ -60,6 +60,15 @@ pub record Same (s t : Store) : Type 0 where
   pub count : t.count ≡ s.count
   pub used : t.used ≡ s.used
 
+-- in the same memory, the clauses that were there are as they were, and others may stand behind them
+pub record Grown (s t : Store) : Type 0 where
+  pub spans_named : t.spans.ghost_name ≡ s.spans.ghost_name
+  pub words_named : t.words.ghost_name ≡ s.words.ghost_name
+  pub spans : (p : ℕ) → p < 2 * s.count → slice_index t.spans.now p ≡ slice_index s.spans.now p
+  pub words : (p : ℕ) → p < s.used → slice_index t.words.now p ≡ slice_index s.words.now p
+  pub count : s.count ≤ t.count
+  pub used : s.used ≤ t.used
+
 -- a clause is refused if a literal is of no variable, or for want of room
 abbrev pub Fits : ℕ → List ℕ → Store → Type 0
 Fits v c s = ((j : ℕ) → j < length c → slice_index c j / 2 < v) × (2 * (s.count + 1) ≤ length s.spans.now) × (s.used + length c ≤ length s.words.now) × (s.used + length c < 2 ^ 32)

@@ -1,7 +1,7 @@
 // A store has the literals of its clauses one after the other, and for each clause two words: where
 // its literals begin and where they end.
 ghost use Rattle.std.specs.Prelude.{◌≡◌, ℕ, ◌+◌, ◌*◌, ◌/◌, ◌<◌, true, false, length, slice_index};
-ghost use Rattle.clauses.specs.Stores.{from, to, StoredS, AddedIf};
+ghost use Rattle.clauses.specs.Stores.{from, to, StoredS, AddedIf, Grown};
 
 #[derive(Drop)]
 pub struct Store<'a> {
@@ -49,6 +49,7 @@ impl Store<'_> {
         ensures words_named { self.new.words.ghost_name ≡ self.old.words.ghost_name }
         ensures spans_size { length self.new.spans.now ≡ length self.old.spans.now }
         ensures words_size { length self.new.words.now ≡ length self.old.words.now }
+        ensures grown { Grown self.old self.new }
     {
         if !all_known(clause, variables) {
             return false;

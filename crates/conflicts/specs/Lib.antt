@@ -1,1 +1,2 @@
--- No definitions of its own: the contracts cite those of the crates below.
+-- What is noted of the literal that stands last on a trail.
+pub mod Settling

@@ -3,7 +3,7 @@
 // refuses all decisions serves: it turns the last decision round.
 #![tactic(auto)]
 
-ghost use Rattle.std.specs.Prelude.{◌≡◌, ℕ, ◌/◌, ◌<◌, ◌≤◌, true, false, length, IfSome};
+ghost use Rattle.std.specs.Prelude.{◌≡◌, ℕ, ◌/◌, ◌<◌, ◌≤◌, true, false, length, IfSome, slice_index};
 ghost use Rattle.clauses.specs.Formulas.{Assignment, Models};
 ghost use Rattle.clauses.specs.Stores.{formula_of, StoredS, SoundS};
 ghost use Rattle.trail.specs.Trails.{Good, Jammed, Later, rank};
@@ -11,6 +11,7 @@ ghost use Rattle.propagation.specs.Looking.{Caused};
 ghost use Rattle.analysis.specs.Marking.{NotedA, Rooted};
 ghost use Rattle.order.specs.Orders.{Ordered};
 ghost use Rattle.learning.specs.Turning.{Known, Follows, Fallen, ClauseFollows};
+ghost use Rattle.conflicts.specs.Settling.{level_below, SettledSays};
 
 use analysis::Analysis;
 use clauses::{Store, negated};
@@ -57,6 +58,7 @@ pub fn first_decision(trail: &Trail) -> usize
     requires { trail.now.len ≤ length trail.now.marks.now }
     ensures rooted { Rooted trail.now.marks.now result }
     ensures low { result ≤ trail.now.len }
+    ensures decided { result < trail.now.len → slice_index trail.now.marks.now result ≡ 1 }
 {
     for place in 0..trail.len {
         if trail.marks[place] == 1 {
@@ -163,6 +165,7 @@ fn watch_kept(
 pub fn level_before(trail: &Trail, variables: usize, causes: &Causes, problem: &Store) -> u32
     requires good { Good (formula_of problem.now) variables trail.now }
     requires causes { Caused variables causes.now }
+    ensures { result ≡ level_below trail.now causes.now }
 {
     if trail.len < 2 {
         return 0;
@@ -182,6 +185,8 @@ pub fn settle(
     requires causes { Caused variables causes.old }
     requires few { variables < 2147483647 }
     ensures causes { Caused variables causes.new }
+    ensures level { result ≡ level_below trail.now causes.old }
+    ensures noted { SettledSays trail.now causes.old causes.new reason result }
 {
     let level = level_before(trail, variables, causes, problem);
     if trail.len > 0 {

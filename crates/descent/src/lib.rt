@@ -6,7 +6,7 @@
 
 ghost use Rattle.std.specs.Prelude.{◌≡◌, ◌+◌, ◌-◌, ◌*◌, ◌<◌, ◌≤◌, true, false, [], ◌∷◌, length};
 ghost use Rattle.clauses.specs.Formulas.{Models};
-ghost use Rattle.clauses.specs.Stores.{formula_of, StoredS, SoundS};
+ghost use Rattle.clauses.specs.Stores.{formula_of, StoredS, SoundS, Grown};
 ghost use Rattle.trail.specs.Trails.{Good};
 ghost use Rattle.propagation.specs.Looking.{Caused};
 ghost use Rattle.analysis.specs.Marking.{NotedA};
@@ -147,6 +147,7 @@ fn descend(
     requires model { Models (formula_of problem.old) (assignment values.old) }
     requires lowest { Lowest (formula_of problem.old) (assignment values.old) low }
     ensures first { FirstModel (formula_of problem.old) (assignment values.new) low high }
+    ensures grown { Grown problem.old problem.new }
     ensures questions { result + 1 ≤ high - low }
 {
     let mut place = low;
@@ -200,7 +201,8 @@ pub fn first_model(
     requires size { length values.old ≡ variables }
     requires range { high ≤ variables }
     requires units { Room problem.old (high - low) }
-    ensures { FirstSays (formula_of problem.old) low high values.old values.new result }
+    ensures says { FirstSays (formula_of problem.old) low high values.old values.new result }
+    ensures grown { Grown problem.old problem.new }
 {
     if low >= high {
         let nothing: [u32; 0] = [];

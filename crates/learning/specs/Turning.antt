@@ -1,5 +1,5 @@
 -- What a clause that follows does to the trail.
-use Rattle.std.specs.Prelude.{◌≡◌, ℕ, ◌/◌, ◌<◌, ◌≤◌, true, ◌⊎◌, List, length, Some, None, Option, slice_index}
+use Rattle.std.specs.Prelude.{◌≡◌, ℕ, ◌/◌, ◌<◌, ◌≤◌, true, ◌⊎◌, List, length, Some, None, Option, ◌≢◌, slice_index}
 use Rattle.clauses.specs.Formulas.{Assignment, value, negation, Satisfies, Models}
 use Rattle.clauses.specs.Stores.{SomeTrue}
 use Rattle.trail.specs.declared.Trail.{Trail}
@@ -23,6 +23,17 @@ Against literals before one l = (l ≡ one) ⊎ OnTrail literals before (negatio
 -- a literal is true in every model that has the decisions before a place
 abbrev pub Forced : List (List ℕ) → List ℕ → List ℕ → ℕ → ℕ → Type 0
 Forced f literals marks before l = (α : Assignment) → Models f α → Decided literals marks α before → value α l ≡ true
+
+-- a place is above those that are noted of a clause's literals but one
+abbrev pub Above : List ℕ → List ℕ → ℕ → ℕ → Type 0
+Above places clause one p = (j : ℕ) → j < length clause → slice_index clause j ≢ one → slice_index places (slice_index clause j / 2) < p
+
+-- the lowest decision among the n places that is above them, or n where there is none
+pub record LowestDecision (marks places clause : List ℕ) (n one p : ℕ) : Type 0 where
+  pub within : p ≤ n
+  pub decided : p < n → slice_index marks p ≡ 1
+  pub above : p < n → Above places clause one p
+  pub lowest : (q : ℕ) → q < p → Above places clause one q → slice_index marks q ≢ 1
 
 -- the trail is good and has fallen
 pub record Fallen (f : List (List ℕ)) (v : ℕ) (s t : Trail) : Type 0 where

@@ -8,7 +8,7 @@ ghost use Rattle.clauses.specs.Formulas.{negation};
 ghost use Rattle.clauses.specs.Stores.{formula_of, SoundS};
 ghost use Rattle.trail.specs.Trails.{OnTrail, Good, Jammed, Later};
 ghost use Rattle.propagation.specs.Looking.{Caused};
-ghost use Rattle.learning.specs.Turning.{Known, Follows, Forced, TurnSays, RefusalSays};
+ghost use Rattle.learning.specs.Turning.{Known, Follows, Forced, LowestDecision, TurnSays, RefusalSays};
 
 use clauses::{Store, negated};
 use propagation::Causes;
@@ -80,6 +80,7 @@ pub fn decision_above(
     requires good { Good (formula_of problem.now) variables trail.now }
     requires causes { Caused variables causes.now }
     requires known { Known variables clause.now }
+    ensures { LowestDecision trail.now.marks.now causes.now.places.now clause.now trail.now.len literal result }
 {
     let mut at: usize = 0;
     for place in 0..clause.len() {

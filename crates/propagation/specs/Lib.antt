@@ -1,1 +1,3 @@
 pub mod Looking
+-- Chains of watches.
+pub mod Watching

@@ -1,5 +1,5 @@
 -- What a look at a clause says under the values of a trail.
-use Rattle.std.specs.Prelude.{◌≡◌, ℕ, ◌/◌, ◌<◌, ◌≤◌, true, ◌⊎◌, List, length, Some, None, Option, ◌≢◌, slice_index}
+use Rattle.std.specs.Prelude.{◌≡◌, ℕ, ◌/◌, ◌<◌, ◌≤◌, true, ◌⊎◌, List, length, Some, None, Option, ◌≢◌, slice_index, slice_set}
 use Rattle.clauses.specs.Formulas.{Assignment, value, Models}
 use Rattle.trail.specs.Trails.{IsFalseUnder}
 use Rattle.propagation.specs.declared.Look.{Look}
@@ -36,3 +36,9 @@ pub record Caused (v : ℕ) (c : Causes) : Type 0 where
   pub reasons : length c.reasons.now ≡ v
   pub levels : length c.levels.now ≡ v
   pub places : length c.places.now ≡ v
+
+-- of one variable it is noted why, at which level and where it has its value; of the others nothing changed
+pub record NotedCause (s t : Causes) (variable reason level place : ℕ) : Type 0 where
+  pub reasons : t.reasons.now ≡ slice_set s.reasons.now variable reason
+  pub levels : t.levels.now ≡ slice_set s.levels.now variable level
+  pub places : t.places.now ≡ slice_set s.places.now variable place

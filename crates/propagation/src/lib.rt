@@ -3,10 +3,11 @@
 // seen, and a clause that is not looked at concludes nothing.
 #![tactic(auto)]
 
-ghost use Rattle.std.specs.Prelude.{◌≡◌, ℕ, ◌+◌, ◌*◌, ◌/◌, ◌<◌, ◌≤◌, length, IfSome, slice_index};
+ghost use Rattle.std.specs.Prelude.{◌≡◌, ℕ, ◌+◌, ◌*◌, ◌/◌, ◌<◌, ◌≤◌, length, IfSome, slice_index, slice_set};
 ghost use Rattle.clauses.specs.Stores.{from, to, formula_of, StoredS, SoundS};
 ghost use Rattle.trail.specs.Trails.{IsTrueUnder, Good, Jammed, Later, rank};
-ghost use Rattle.propagation.specs.Looking.{ReplacementSays, ScanSays, LookSays, Caused};
+ghost use Rattle.propagation.specs.Looking.{ReplacementSays, ScanSays, LookSays, Caused, NotedCause};
+ghost use Rattle.propagation.specs.Watching.{ChainedFirst, Attached};
 
 use clauses::{Store, negated};
 use trail::{Trail, is_false};
@@ -39,7 +40,9 @@ pub enum Look {
 }
 
 impl Watches<'_> {
-    fn head(&self, literal: u32) -> u32 {
+    fn head(&self, literal: u32) -> u32
+        ensures { result ≡ slice_index self.now.heads.now literal }
+    {
         if (literal as usize) < self.heads.len() {
             self.heads[literal as usize]
         } else {
@@ -55,20 +58,28 @@ impl Watches<'_> {
         }
     }
 
-    fn set_head(&mut self, literal: u32, node: u32) {
+    fn set_head(&mut self, literal: u32, node: u32)
+        ensures heads { self.new.heads.now ≡ slice_set self.old.heads.now literal node }
+        ensures links { self.new.links.now ≡ self.old.links.now }
+    {
         if (literal as usize) < self.heads.len() {
             self.heads[literal as usize] = node;
         }
     }
 
-    fn set_link(&mut self, at: usize, node: u32) {
+    fn set_link(&mut self, at: usize, node: u32)
+        ensures heads { self.new.heads.now ≡ self.old.heads.now }
+        ensures links { self.new.links.now ≡ slice_set self.old.links.now at node }
+    {
         if at < self.links.len() {
             self.links[at] = node;
         }
     }
 
     // Puts a node first into the chain of a literal.
-    fn watch(&mut self, at: usize, literal: u32, node: u32) {
+    fn watch(&mut self, at: usize, literal: u32, node: u32)
+        ensures { ChainedFirst self.old self.new at literal node }
+    {
         let rest = self.head(literal);
         self.set_link(at, rest);
         self.set_head(literal, node);
@@ -94,15 +105,20 @@ impl Watches<'_> {
     }
 
     // Has no clause watched any more.
-    pub fn detach_all(&mut self) {
+    pub fn detach_all(&mut self)
+        ensures heads { (l : ℕ) → slice_index self.new.heads.now l ≡ 0 }
+        ensures links { self.new.links.now ≡ self.old.links.now }
+    {
         let literals = self.heads.len();
         for literal in 0..literals {
             self.heads[literal] = 0;
         }
     }
 
-    // Has a clause watched by two of its literals.
-    pub fn attach(&mut self, clause: u32, one: u32, other: u32) {
+    // Has a clause watched by two of its literals. A word for which there is no room is left away.
+    pub fn attach(&mut self, clause: u32, one: u32, other: u32)
+        ensures { Attached self.old self.new clause one other }
+    {
         let at = 4 * clause as usize;
         let node = clause.saturating_mul(2);
         self.set_link(at + 2, one);
@@ -115,7 +131,8 @@ impl Watches<'_> {
 impl Causes<'_> {
     pub fn note(&mut self, variable: usize, reason: u32, level: u32, place: u32)
         requires { (Caused (length self.old.reasons.now) self.old) × (variable < length self.old.reasons.now) }
-        ensures { Caused (length self.old.reasons.now) self.new }
+        ensures caused { Caused (length self.old.reasons.now) self.new }
+        ensures noted { NotedCause self.old self.new variable reason level place }
     {
         self.reasons[variable] = reason;
         self.levels[variable] = level;

@@ -49,10 +49,10 @@ pub record Fitting (v : ℕ) (spans words : List ℕ) (count used low high room 
 
 -- the values are the first model, with at most as many questions as variables of the range; no assignment is a model; or refused. Only a model changes the values
 abbrev pub FirstPost : List ℕ → List ℕ → ℕ → ℕ → ℕ → ℕ → List ℕ → List ℕ → ℕ → FirstAnswer → Type 0
-FirstPost spans words count used low high values values' room (first.First n) = Asked (length values) spans words count used high × FirstModel (formula spans words count) (assignment values') low high × (low < high → n ≤ high - low)
-FirstPost spans words count used low high values values' room first.None = Asked (length values) spans words count used high × ((α : Assignment) → Models (formula spans words count) α → ⊥) × (values' ≡ values)
+FirstPost spans words count used low high values values' room (first.First n) = Asked (length values) spans words count used high × Fitting (length values) spans words count used low high room × FirstModel (formula spans words count) (assignment values') low high × (low < high → n ≤ high - low)
+FirstPost spans words count used low high values values' room first.None = Asked (length values) spans words count used high × Fitting (length values) spans words count used low high room × ((α : Assignment) → Models (formula spans words count) α → ⊥) × (values' ≡ values)
 FirstPost spans words count used low high values values' room first.Bad = (Asked (length values) spans words count used high → ⊥) × (values' ≡ values)
-FirstPost spans words count used low high values values' room first.Few = (Fitting (length values) spans words count used low high room → ⊥) × (values' ≡ values)
+FirstPost spans words count used low high values values' room first.Few = Asked (length values) spans words count used high × (Fitting (length values) spans words count used low high room → ⊥) × (values' ≡ values)
 
 abbrev pub first_code : FirstAnswer → ℕ
 first_code first.None = 0

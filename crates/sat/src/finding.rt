@@ -1,6 +1,6 @@
 // The first model, on lent work.
 ghost use Rattle.std.specs.Prelude.{◌≡◌, ◌+◌, ◌-◌, ◌*◌, ◌<◌, ◌≤◌, true, false, length};
-ghost use Rattle.clauses.specs.Stores.{formula_of, StoredS};
+ghost use Rattle.clauses.specs.Stores.{formula_of, StoredS, Grown};
 ghost use Rattle.trail.specs.Trails.{Good};
 ghost use Rattle.propagation.specs.Looking.{Caused};
 ghost use Rattle.analysis.specs.Marking.{NotedA};
@@ -43,7 +43,8 @@ fn first_watched(
     requires units { Room problem.old (high - low) }
     requires size { length values.old ≡ variables }
     requires room { 2 * variables + 4 * problem.old.count ≤ length work.old }
-    ensures { FirstSays (formula_of problem.old) low high values.old values.new result }
+    ensures says { FirstSays (formula_of problem.old) low high values.old values.new result }
+    ensures grown { Grown problem.old problem.new }
 {
     let base = problem.count;
     let (heads, rest) = work.split_at_mut(2 * variables);
@@ -112,7 +113,8 @@ fn first_ordered(
     requires units { Room problem.old (high - low) }
     requires size { length values.old ≡ variables }
     requires room { 9 * variables + 4 * problem.old.count ≤ length work.old }
-    ensures { FirstSays (formula_of problem.old) low high values.old values.new result }
+    ensures says { FirstSays (formula_of problem.old) low high values.old values.new result }
+    ensures grown { Grown problem.old problem.new }
 {
     let (seen, rest) = work.split_at_mut(variables);
     let (touched, rest) = rest.split_at_mut(variables);
@@ -176,7 +178,8 @@ pub fn first_stored(
     requires range { high ≤ variables }
     requires units { Room problem.old (high - low) }
     requires room { 15 * variables + 4 * problem.old.count ≤ length work.old }
-    ensures { FirstSays (formula_of problem.old) low high values.old values.new result }
+    ensures says { FirstSays (formula_of problem.old) low high values.old values.new result }
+    ensures grown { Grown problem.old problem.new }
 {
     let (known, rest) = work.split_at_mut(variables);
     let (literals, rest) = rest.split_at_mut(variables);

@@ -3,7 +3,7 @@
 // its two spans up to the second.
 #![tactic(auto)]
 
-ghost use Rattle.std.specs.Prelude.{◌≡◌, ◌+◌, ◌*◌, ◌^◌, ◌<◌, ◌≤◌, true, false, length};
+ghost use Rattle.std.specs.Prelude.{◌≡◌, ℕ, ◌+◌, ◌*◌, ◌^◌, ◌<◌, ◌≤◌, true, false, length, slice_index};
 ghost use Rattle.clauses.specs.Stores.{Stored};
 ghost use Rattle.solver.specs.Assumptions.{KnownAll};
 ghost use Rattle.sat.specs.Promise.{floor_of, AnswerPost, CodePost};
@@ -236,8 +236,8 @@ pub fn sat_ask_under(
 }
 
 // The first model of clauses by the variables of a range, in their sequence, false first. The first so
-// many spans and words are the clauses, and there must be room for a clause of one literal more for
-// each variable of the range, which is written there.
+// many spans and words are the clauses, which stay as they are; there must be room behind them for a
+// clause of one literal more for each variable of the range, which is written there.
 pub fn first(
     spans: &mut [u32],
     words: &mut [u32],
@@ -250,7 +250,9 @@ pub fn first(
     counts: &mut [u64],
     work: &mut [u32],
 ) -> FirstAnswer
-    ensures { FirstPost spans.old words.old count used low high values.old values.new (length work.old) result }
+    ensures says { FirstPost spans.old words.old count used low high values.old values.new (length work.old) result }
+    ensures spans { (p : ℕ) → p < 2 * count → slice_index spans.new p ≡ slice_index spans.old p }
+    ensures words { (p : ℕ) → p < used → slice_index words.new p ≡ slice_index words.old p }
 {
     let variables = values.len();
     if variables >= 0x7fff_ffff || high > variables {
@@ -304,7 +306,9 @@ pub fn sat_first(
     counts: &mut [u64],
     work: &mut [u32],
 ) -> u64
-    ensures { FirstCodePost spans.old words.old count used low high values.old values.new (length work.old) result }
+    ensures code { FirstCodePost spans.old words.old count used low high values.old values.new (length work.old) result }
+    ensures spans { (p : ℕ) → p < 2 * count → slice_index spans.new p ≡ slice_index spans.old p }
+    ensures words { (p : ℕ) → p < used → slice_index words.new p ≡ slice_index words.old p }
 {
     match first(
         spans, words, count, used, values, decided, low, high, counts, work,

@@ -1,7 +1,7 @@
 // The calls for other languages, as a static library.
 #![tactic(auto)]
 
-ghost use Rattle.std.specs.Prelude.{◌≡◌, length};
+ghost use Rattle.std.specs.Prelude.{◌≡◌, ℕ, ◌*◌, ◌<◌, length, slice_index};
 ghost use Rattle.sat.specs.Promise.{CodePost};
 ghost use Rattle.sat.specs.Under.{UnderCodePost, FirstCodePost};
 
@@ -58,7 +58,9 @@ pub extern "C" fn sat_first(
     counts: &mut [u64],
     work: &mut [u32],
 ) -> u64
-    ensures { FirstCodePost spans.old words.old count used low high values.old values.new (length work.old) result }
+    ensures code { FirstCodePost spans.old words.old count used low high values.old values.new (length work.old) result }
+    ensures spans { (p : ℕ) → p < 2 * count → slice_index spans.new p ≡ slice_index spans.old p }
+    ensures words { (p : ℕ) → p < used → slice_index words.new p ≡ slice_index words.old p }
 {
     sat::sat_first(
         spans, words, count, used, values, decided, low, high, counts, work,

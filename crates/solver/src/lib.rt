@@ -5,7 +5,7 @@
 
 ghost use Rattle.std.specs.Prelude.{◌≡◌, ◌+◌, ◌*◌, ◌/◌, ◌^◌, ◌<◌, ◌≤◌, true, false, ◌⊎◌, [], ◌∷◌, length};
 ghost use Rattle.clauses.specs.Formulas.{Assignment, Models};
-ghost use Rattle.clauses.specs.Stores.{formula_of, StoredS, SoundS, Fits, Added};
+ghost use Rattle.clauses.specs.Stores.{formula_of, StoredS, SoundS, Fits, Added, Grown};
 ghost use Rattle.trail.specs.Trails.{Good};
 ghost use Rattle.propagation.specs.Looking.{Caused};
 ghost use Rattle.analysis.specs.Marking.{NotedA, Rooted};
@@ -205,6 +205,7 @@ pub fn fix(
     ensures added { Added variables (literal ∷ []) problem.old problem.new }
     ensures spans_size { length problem.new.spans.now ≡ length problem.old.spans.now }
     ensures words_size { length problem.new.words.now ≡ length problem.old.words.now }
+    ensures grown { Grown problem.old problem.new }
     ensures good { Good (formula_of problem.new) variables trail.new }
     ensures learned { SoundS (formula_of problem.new) variables learned.now }
     ensures none { result ≡ false → (α : Assignment) → Models (formula_of problem.new) α → ⊥ }

@@ -1,5 +1,6 @@
 // When to begin anew, and when to forget. It only steers: a search without it would end as well, and
 // give the same answers, later.
+ghost use Rattle.std.specs.Prelude.{◌≡◌};
 
 // Conflicts in the unit by which fresh starts are counted.
 const UNIT: u32 = 100;
@@ -28,7 +29,10 @@ pub struct Pace {
 }
 
 impl Pace {
-    pub fn new(clauses: usize) -> Pace {
+    // For a problem of so many clauses.
+    pub fn new(clauses: usize) -> Pace
+        ensures { result.start ≡ 0 }
+    {
         Pace {
             start: 0,
             conflicts: 0,
@@ -44,7 +48,9 @@ impl Pace {
     }
 
     // Forgets nothing.
-    pub fn endless() -> Pace {
+    pub(crate) fn endless() -> Pace
+        ensures { result.start ≡ 0 }
+    {
         let mut pace = Pace::new(0);
         pace.most = usize::MAX;
         pace.unkept = u64::MAX;
@@ -52,7 +58,7 @@ impl Pace {
     }
 
     // A conflict has passed.
-    pub fn note_conflict(&mut self) {
+    pub(crate) fn note_conflict(&mut self) {
         self.conflicts = self.conflicts.saturating_add(1);
         self.idle = self.idle.saturating_add(1);
         self.growing = self.growing.saturating_add(1);
@@ -64,16 +70,16 @@ impl Pace {
     }
 
     // Whether it is time to begin anew.
-    pub fn is_over(&self) -> bool {
+    pub(crate) fn is_over(&self) -> bool {
         self.conflicts / UNIT >= self.length
     }
 
     // Whether it is time to forget, with so many clauses kept and so many that found no room.
-    pub fn is_full(&self, learned: usize, unkept: u64) -> bool {
+    pub(crate) fn is_full(&self, learned: usize, unkept: u64) -> bool {
         learned >= self.most || unkept > self.unkept && self.idle >= self.patience
     }
 
-    pub fn begin_anew(&mut self) {
+    pub(crate) fn begin_anew(&mut self) {
         self.conflicts = 0;
         let double = self.length.saturating_mul(2).max(1);
         if self.turn % double == self.length {
@@ -84,7 +90,7 @@ impl Pace {
         }
     }
 
-    pub fn note_forgotten(&mut self, unkept: u64) {
+    pub(crate) fn note_forgotten(&mut self, unkept: u64) {
         if unkept > self.unkept {
             self.patience = self.patience.saturating_add(self.patience / 4);
         }

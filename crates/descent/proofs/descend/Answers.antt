@@ -1,5 +1,6 @@
 use Rattle.std.proofs.Common.{◌+◌, ◌-◌, ◌∙◌, arith}
 use Rattle.clauses.specs.Stores.{formula_of}
+use Rattle.clauses.proofs.Growing.{grown_on}
 use Rattle.solver.specs.Values.{assignment}
 use Rattle.descent.specs.Firsts.{Settled, Room}
 use Rattle.descent.proofs.Settling.{settled_more, settled_other, settled_all}
@@ -54,6 +55,7 @@ loop-place-preserved c =
       size = c.lower-questions.auto.values ∙ i.size;
       from = omega (arith, i.from);
       inside = omega (arith, i.inside);
+      grown = grown_on _ _ _ i.grown f.grown;
       room = room d;
       settled = settled_other _ _ _ _ _ _ (settled d) e.model;
       lowest = e.lowest;
@@ -66,5 +68,6 @@ returns c =
     let i = c.loop-place.invariant in
     record {
       first = settled_all _ _ _ _ _ _ (omega arith) (settled d);
+      grown = grown_on _ _ _ i.grown c.fix.ensures.grown;
       questions = omega (arith, i.questions, i.from, i.inside);
     }

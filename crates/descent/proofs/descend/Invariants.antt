@@ -1,5 +1,5 @@
 use Rattle.std.proofs.Common.{◌≡◌, ◌-◌, ◌<◌, ◌≤◌, length}
-use Rattle.clauses.specs.Stores.{formula_of, StoredS, SoundS}
+use Rattle.clauses.specs.Stores.{formula_of, StoredS, SoundS, Grown}
 use Rattle.trail.specs.Trails.{Good}
 use Rattle.propagation.specs.Looking.{Caused}
 use Rattle.analysis.specs.Marking.{NotedA}
@@ -20,6 +20,7 @@ invariant-loop-place l = record {
   size : length l.values ≡ l.variables;
   from : l.low ≤ l.place;
   inside : l.place < l.high;
+  grown : Grown l.initial.problem l.problem;
   room : Room l.problem (l.high - l.place);
   settled : Settled (formula_of l.initial.problem) (formula_of l.problem) (assignment l.values) l.low l.place;
   lowest : Lowest (formula_of l.problem) (assignment l.values) l.place;

@@ -2,16 +2,17 @@ use Rattle.std.proofs.Common.{ℕ, not, List, sym, refl, ap, ◌∙◌, subst, i
 use mathlib.Core.Bool.{not-not}
 use Rattle.clauses.specs.Formulas.{Models}
 use Rattle.clauses.specs.Stores.{formula_of}
+use Rattle.clauses.proofs.Growing.{grown_none}
 use Rattle.solver.specs.Values.{assignment}
 use Rattle.descent.specs.Firsts.{Lowest}
 use Rattle.descent.proofs.Settling.{negative}
 use Rattle.descent.proofs.first_model.Goals as goal
 
 pub returns-then-not-solve_under : goal.returns-then-not-solve_under
-returns-then-not-solve_under c = record { none = λ α m. c.if-not-solve_under.ensures.none refl α m (λ i h. absurd (omega arith)); same = refl }
+returns-then-not-solve_under c = record { says = record { none = λ α m. c.if-not-solve_under.ensures.none refl α m (λ i h. absurd (omega arith)); same = refl }; grown = grown_none _ }
 
 pub returns-then-not-solve_under-2 : goal.returns-then-not-solve_under-2
-returns-then-not-solve_under-2 c = record { none = λ α m. c.if-not-solve_under-2.ensures.none refl α m (λ i h. absurd (omega arith)); same = refl }
+returns-then-not-solve_under-2 c = record { says = record { none = λ α m. c.if-not-solve_under-2.ensures.none refl α m (λ i h. absurd (omega arith)); same = refl }; grown = grown_none _ }
 
 pub descend-questions-requires : goal.descend-questions-requires
 descend-questions-requires c =

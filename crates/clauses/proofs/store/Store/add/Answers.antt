@@ -1,5 +1,6 @@
-use Rattle.std.proofs.Common.{◌≡◌, ℕ, ◌+◌, ◌*◌, ◌^◌, ◌<◌, ◌≤◌, List, [], ◌∷◌, ◌++◌, length, set, sym, refl, ap, subst, arith}
+use Rattle.std.proofs.Common.{◌≡◌, ℕ, ◌+◌, ◌*◌, ◌^◌, ◌<◌, ◌≤◌, List, [], ◌∷◌, ◌++◌, length, get_or, set, sym, refl, ap, ◌∙◌, subst, arith}
 use Rattle.std.proofs.Math.ListN.{length-set}
+use Rattle.std.proofs.lemmas.List.{get_or-set_other}
 use Rattle.clauses.specs.Stores.{formula, Stored}
 use Rattle.clauses.proofs.Copies.{Copied, added_formula, added_stored}
 use Rattle.clauses.proofs.store.Store.add.Goals as goal
@@ -28,4 +29,12 @@ returns c =
       words_named = c.loop-place.invariant.2;
       spans_size = simp length-set (ap length (sym same));
       words_size = copied.long;
+      grown = record {
+        spans_named = ap (λ x. x.ghost_name) c.loop-place.invariant.1;
+        words_named = c.loop-place.invariant.2;
+        spans = λ p h. let n : ℕ = 2 * c.args.self.now.count in get_or-set_other _ (n + 1) p _ 0 (omega arith) ∙ get_or-set_other _ n p _ 0 (omega arith) ∙ ap (λ (s : List ℕ). get_or s p 0) (sym same);
+        words = copied.before;
+        count = omega arith;
+        used = omega arith;
+      };
     }

@@ -84,11 +84,8 @@ pub fn floor(formula: &Formula) -> usize {
 /// Asks whether a formula has a model, with lent memory that may hold anything. An error is
 /// an answer that breaks the promise.
 pub fn ask(formula: &Formula, work: &mut [u32]) -> Result<Answer, String> {
-    let mut spans = formula.spans.clone();
-    let mut words = formula.words.clone();
-    let mut values = vec![UNTOUCHED; formula.variables];
     // SAFETY: each pointer is of a slice of that length, which nothing else reads or writes.
-    let code = unsafe {
+    asked(formula, &[], |spans, words, values| unsafe {
         sat_ask(
             spans.as_mut_ptr(),
             spans.len(),
@@ -100,9 +97,7 @@ pub fn ask(formula: &Formula, work: &mut [u32]) -> Result<Answer, String> {
             work.as_mut_ptr(),
             work.len(),
         )
-    };
-    unchanged(formula, &spans, &words, code)?;
-    answer(formula, code, &[], &values, work.len())
+    })
 }
 
 /// The same under assumptions, with what the solver counted.
@@ -111,12 +106,9 @@ pub fn ask_under(
     assumptions: &[u32],
     work: &mut [u32],
 ) -> Result<(Answer, Counts), String> {
-    let mut spans = formula.spans.clone();
-    let mut words = formula.words.clone();
-    let mut values = vec![UNTOUCHED; formula.variables];
     let mut counts = [0; 6];
     // SAFETY: each pointer is of a slice of that length, which nothing else reads or writes.
-    let code = unsafe {
+    let answer = asked(formula, assumptions, |spans, words, values| unsafe {
         sat_ask_under(
             spans.as_mut_ptr(),
             spans.len(),
@@ -132,37 +124,32 @@ pub fn ask_under(
             work.as_mut_ptr(),
             work.len(),
         )
-    };
-    unchanged(formula, &spans, &words, code)?;
+    })?;
     let [conflicts, decisions, restarts, reductions, refusals, unkept] = counts;
-    let counts = Counts { conflicts, decisions, restarts, reductions, refusals, unkept };
-    answer(formula, code, assumptions, &values, work.len()).map(|answer| (answer, counts))
+    Ok((answer, Counts { conflicts, decisions, restarts, reductions, refusals, unkept }))
 }
 
-/// The clauses are to stay as they were.
-fn unchanged(formula: &Formula, spans: &[u32], words: &[u32], code: u32) -> Result<(), String> {
-    if spans == formula.spans && words == formula.words {
-        Ok(())
-    } else {
-        Err(format!("the call answered {code} and changed the clauses"))
-    }
-}
-
-/// What a code says, with the values that came with it.
-fn answer(
+/// What a call answers that is given the spans, words and values of a formula: the clauses are
+/// to stay as they were, and but for a model so are the values.
+fn asked(
     formula: &Formula,
-    code: u32,
     assumptions: &[u32],
-    values: &[u32],
-    lent: usize,
+    call: impl FnOnce(&mut [u32], &mut [u32], &mut [u32]) -> u32,
 ) -> Result<Answer, String> {
+    let mut spans = formula.spans.clone();
+    let mut words = formula.words.clone();
+    let mut values = vec![UNTOUCHED; formula.variables];
+    let code = call(&mut spans, &mut words, &mut values);
+    if spans != formula.spans || words != formula.words {
+        return Err(format!("the call answered {code} and changed the clauses"));
+    }
     if code != MODEL && values.iter().any(|value| *value != UNTOUCHED) {
         return Err(format!("the call answered {code}, which is no model, and changed the values"));
     }
     match code {
         NONE => Ok(Answer::None),
         MODEL => {
-            let model = model(formula, values)?;
+            let model = model(formula, &values)?;
             if assumptions.iter().all(|literal| holds(&model, *literal)) {
                 Ok(Answer::Model(model))
             } else {
@@ -170,7 +157,7 @@ fn answer(
             }
         }
         BAD => Err("the call says that the clauses are none".into()),
-        FEW => Err(format!("the call says that {lent} words are too few")),
+        FEW => Err("the call says that the words lent are too few".into()),
         code => Err(format!("the call answered {code}, which is no answer")),
     }
 }
@@ -210,6 +197,9 @@ pub fn first(
             work.len(),
         )
     };
+    if spans[..2 * count] != formula.spans || words[..used] != formula.words {
+        return Err(format!("the call answered {code} and changed the clauses"));
+    }
     match code {
         0 if values.iter().all(|value| *value == UNTOUCHED) => Ok(None),
         0 => Err("the call found no model and changed the values".into()),

@@ -55,9 +55,8 @@ pub fn run(count: usize) -> Result<ExitCode, String> {
     let (mut models, mut assumed, mut firsts) = (0, 0, 0);
     for number in 0..count {
         let formula = formula(&mut random);
-        let all: Vec<Vec<bool>> = assignments(formula.variables)
-            .filter(|model| formula.is_model(model))
-            .collect();
+        let all: Vec<Vec<bool>> =
+            assignments(formula.variables).filter(|model| formula.is_model(model)).collect();
         let literals = assumptions(&mut questions, formula.variables);
         let with = all.iter().any(|model| literals.iter().all(|literal| holds(model, *literal)));
         let low = questions.below(formula.variables);

@@ -1,5 +1,5 @@
 -- Stores that only grow.
-use Rattle.std.proofs.Common.{◌*◌, refl, ◌∙◌, le_trans, arith}
+use Rattle.std.proofs.Common.{refl, ◌∙◌, le_trans, arith}
 use Rattle.clauses.specs.declared.store.Store.{Store}
 use Rattle.clauses.specs.Stores.{Grown}
 

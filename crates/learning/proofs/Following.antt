@@ -1,9 +1,9 @@
 -- Clauses that follow: what one forces, and one more in a store.
 use Rattle.std.proofs.Common.{◌≡◌, ℕ, zero, suc, ◌+◌, ◌<◌, ◌≤◌, Bool, true, false, List, [], ◌∷◌, ◌++◌, length, get_or, sym, refl, ap, ◌∙◌, subst, inl, inr, arith}
-use Rattle.std.proofs.lemmas.Bool.{both_ways, not-true}
+use Rattle.std.proofs.lemmas.Bool.{both_ways, not-true, true≢false}
 use Rattle.clauses.specs.declared.store.Store.{Store}
 use Rattle.clauses.specs.Formulas.{Assignment, value, negation, Satisfies, Models}
-use Rattle.clauses.specs.Stores.{formula_of, Sound, SoundS, Added, AddedIf, Same}
+use Rattle.clauses.specs.Stores.{formula_of, Sound, SoundS, Added, AddedIf, Same, Fits}
 use Rattle.clauses.proofs.Literals.{value_negation, own_sound, all_true}
 use Rattle.trail.specs.Trails.{Held}
 use Rattle.learning.specs.Turning.{Follows, Against, Forced}
@@ -46,3 +46,8 @@ sound_same f v s t sound same =
 pub sound_kept : (f : List (List ℕ)) (v : ℕ) (c : List ℕ) (s t : Store) (b : Bool) → SoundS f v s → Follows f c → AddedIf v c s t b → SoundS f v t × (b ≡ true → t.count ≡ s.count + 1)
 sound_kept f v c s t true sound follows a = (sound_more f v c s t sound follows a.1, λ _. a.1.count)
 sound_kept f v c s t false sound follows a = (sound_same f v s t sound a.1, λ e. absurd (both_ways false refl e))
+
+-- a clause that was refused did not fit, and nothing changed
+pub not_kept : (v : ℕ) (c : List ℕ) (s t : Store) (r : Bool) → AddedIf v c s t r → r ≡ false → (Fits v c s → ⊥) × Same s t
+not_kept v c s t true a e = absurd (true≢false e)
+not_kept v c s t false a e = a

@@ -1,12 +1,12 @@
 -- The negated decisions are collected one by one, into a clause that every model satisfies where none has all decisions.
-use Rattle.std.proofs.Common.{◌≡◌, ℕ, ◌+◌, ◌/◌, ◌<◌, ◌≤◌, true, not, ◌⊎◌, List, length, get_or, set, sym, ap, ◌∙◌, subst, inl, inr, ⊎_elim, arith}
+use Rattle.std.proofs.Common.{◌≡◌, ℕ, zero, suc, ◌+◌, ◌/◌, ◌<◌, ◌≤◌, true, cond, eqb, not, ◌⊎◌, List, length, get_or, set, sym, ap, ◌∙◌, subst, inl, inr, ⊎_elim, arith, add-one, eq-eqb}
 use Rattle.std.proofs.lemmas.List.{length-set, get_or-set_same, get_or-set_other}
-use Rattle.std.proofs.lemmas.Bool.{cases_eq, cases_Bool}
+use Rattle.std.proofs.lemmas.Bool.{cases_eq, cases_Bool, cond-true, cond-false, ne_eqb}
 use Rattle.clauses.specs.Formulas.{Assignment, value, negation}
 use Rattle.clauses.specs.Stores.{SomeTrue}
 use Rattle.clauses.proofs.Literals.{value_negation, negation_half}
 use Rattle.trail.specs.Trails.{Decided, Stuck}
-use Rattle.learning.specs.Turning.{ClauseFollows, Refusing}
+use Rattle.learning.specs.Turning.{ClauseFollows, Refusing, decisions}
 
 pub refusing_none : (f : List (List ℕ)) (v : ℕ) (literals marks buffer : List ℕ) → Refusing f v literals marks buffer 0 0
 refusing_none f v literals marks buffer = record { room = omega arith; known = λ j h. absurd (omega arith); either = λ α m. inl (λ q h. absurd (omega arith)) }
@@ -55,3 +55,21 @@ refusing_more f v literals marks buffer place size l e known room r =
 pub refused : (f : List (List ℕ)) (v : ℕ) (literals marks buffer : List ℕ) (n place size : ℕ) → Stuck f literals marks n → n ≤ place → Refusing f v literals marks buffer place size → ClauseFollows f v buffer size
 refused f v literals marks buffer n place size stuck low r =
     record { room = r.room; known = r.known; follows = λ α m. ⊎_elim (λ d. absurd (stuck α m (λ q h. d q (omega arith)))) (λ t. t) (r.either α m) }
+
+-- decisions, counted place by place
+abbrev step : ℕ → ℕ
+step mark = cond (eqb mark 1) 1 0
+
+pub decisions_skip : (marks : List ℕ) (n : ℕ) → (get_or marks n 0 ≡ 1 → ⊥) → decisions marks (n + 1) ≡ decisions marks n
+decisions_skip marks n ne = let e : step (get_or marks n 0) ≡ 0 = cond-false (eqb (get_or marks n 0) 1) 1 0 (ne_eqb (get_or marks n 0) 1 ne) in let d : decisions marks (n + 1) ≡ decisions marks n + step (get_or marks n 0) = ap (decisions marks) (add-one n) in omega arith
+
+pub decisions_one_more : (marks : List ℕ) (n : ℕ) → get_or marks n 0 ≡ 1 → decisions marks (n + 1) ≡ decisions marks n + 1
+decisions_one_more marks n one = let e : step (get_or marks n 0) ≡ 1 = cond-true (eqb (get_or marks n 0) 1) 1 0 (eq-eqb (get_or marks n 0) 1 one) in let d : decisions marks (n + 1) ≡ decisions marks n + step (get_or marks n 0) = ap (decisions marks) (add-one n) in omega arith
+
+pub decisions_grow : (marks : List ℕ) (k n : ℕ) → k ≤ n → decisions marks k ≤ decisions marks n
+decisions_grow marks k zero h = let e : k ≡ 0 = omega arith in omega (arith, ap (decisions marks) e)
+decisions_grow marks k (suc n) h =
+    ⊎_elim
+    (λ e. omega (arith, ap (decisions marks) e))
+    (λ ne. let r = decisions_grow marks k n (omega arith) in omega arith)
+    (cases_eq k (suc n))

@@ -1,5 +1,5 @@
 -- What a clause that follows does to the trail.
-use Rattle.std.specs.Prelude.{◌≡◌, ℕ, ◌/◌, ◌<◌, ◌≤◌, true, ◌⊎◌, List, length, Some, None, Option, ◌≢◌, slice_index}
+use Rattle.std.specs.Prelude.{◌≡◌, ℕ, zero, suc, ◌+◌, ◌/◌, ◌<◌, ◌≤◌, true, cond, ◌⊎◌, List, length, Some, None, Option, ◌==◌, ◌≢◌, slice_index}
 use Rattle.clauses.specs.Formulas.{Assignment, value, negation, Satisfies, Models}
 use Rattle.clauses.specs.Stores.{SomeTrue}
 use Rattle.trail.specs.declared.Trail.{Trail}
@@ -52,10 +52,23 @@ pub record ClauseFollows (f : List (List ℕ)) (v : ℕ) (buffer : List ℕ) (si
   pub known : (j : ℕ) → j < size → slice_index buffer j / 2 < v
   pub follows : (α : Assignment) → Models f α → SomeTrue α buffer 0 size
 
--- the negated decisions, and where the last of them stands
-abbrev pub RefusalSays : List (List ℕ) → ℕ → ℕ → List ℕ → Option Refusal → Type 0
-RefusalSays f v n buffer None = Unit {0}
-RefusalSays f v n buffer (Some r) = ClauseFollows f v buffer r.size × (r.last < n)
+-- how many of the first n places are decisions
+abbrev pub decisions : List ℕ → ℕ → ℕ
+decisions marks zero = 0
+decisions marks (suc n) = decisions marks n + cond (slice_index marks n == 1) 1 0
+
+-- the negated decisions as a clause, and where the last of them stands
+pub record Refused (f : List (List ℕ)) (v : ℕ) (marks : List ℕ) (n : ℕ) (buffer : List ℕ) (r : Refusal) : Type 0 where
+  pub clause : ClauseFollows f v buffer r.size
+  pub size_is : r.size ≡ decisions marks n
+  pub within : r.last < n
+  pub decided : slice_index marks r.last ≡ 1
+  pub later : (q : ℕ) → r.last < q → q < n → slice_index marks q ≢ 1
+
+-- or there is no decision, or no room for so many literals
+abbrev pub RefusalSays : List (List ℕ) → ℕ → List ℕ → ℕ → List ℕ → Option Refusal → Type 0
+RefusalSays f v marks n buffer None = (decisions marks n ≡ 0) ⊎ (length buffer < decisions marks n)
+RefusalSays f v marks n buffer (Some r) = Refused f v marks n buffer r
 
 -- every model has the decisions before a place, or makes one of the negated ones true
 pub record Refusing (f : List (List ℕ)) (v : ℕ) (literals marks buffer : List ℕ) (place size : ℕ) : Type 0 where

@@ -3,9 +3,9 @@
 // not, the last decision is turned round.
 #![tactic(auto)]
 
-ghost use Rattle.std.specs.Prelude.{◌≡◌, ◌+◌, ◌/◌, ◌<◌, ◌≤◌, true, length};
+ghost use Rattle.std.specs.Prelude.{◌≡◌, ◌+◌, ◌/◌, ◌<◌, ◌≤◌, true, false, length};
 ghost use Rattle.clauses.specs.Formulas.{negation};
-ghost use Rattle.clauses.specs.Stores.{formula_of, SoundS};
+ghost use Rattle.clauses.specs.Stores.{formula_of, SoundS, Same, Fits};
 ghost use Rattle.trail.specs.Trails.{OnTrail, Good, Jammed, Later};
 ghost use Rattle.propagation.specs.Looking.{Caused};
 ghost use Rattle.learning.specs.Turning.{Known, Follows, Forced, LowestDecision, TurnSays, RefusalSays};
@@ -152,7 +152,7 @@ pub fn refuse_decisions(
 ) -> Option<Refusal>
     requires good { Good (formula_of problem.now) variables trail.now }
     requires jammed { Jammed (formula_of problem.now) trail.now }
-    ensures { RefusalSays (formula_of problem.now) variables trail.now.len buffer.new result }
+    ensures { RefusalSays (formula_of problem.now) variables trail.now.marks.now trail.now.len buffer.new result }
 {
     let mut size = 0;
     let mut last = trail.len;
@@ -179,6 +179,8 @@ pub fn keep(learned: &mut Store, variables: usize, problem: &Store, clause: &[u3
     requires follows { Follows (formula_of problem.now) clause.now }
     ensures sound { SoundS (formula_of problem.now) variables learned.new }
     ensures count { result ≡ true → learned.new.count ≡ learned.old.count + 1 }
+    ensures full { result ≡ false → Fits variables clause.now learned.old → ⊥ }
+    ensures same { result ≡ false → Same learned.old learned.new }
     ensures spans_named { learned.new.spans.ghost_name ≡ learned.old.spans.ghost_name }
     ensures words_named { learned.new.words.ghost_name ≡ learned.old.words.ghost_name }
 {

@@ -10,8 +10,8 @@ go_on-requires c =
       learned = c.requires.learned;
       causes = c.requires.causes;
       ordered = c.requires.ordered;
-      known = part_known _ _ _ _ e.0;
-      follows = part_follows _ _ _ _ e.0;
-      place = e.1;
+      known = part_known _ _ _ _ e.clause;
+      follows = part_follows _ _ _ _ e.clause;
+      place = e.within;
       few = c.requires.few;
     }

@@ -1,4 +1,4 @@
-use Rattle.std.proofs.Common.{◌≡◌, ◌≢◌, ℕ, ◌-◌, ◌/◌, ◌<◌, ◌≤◌, length, get_or}
+use Rattle.std.proofs.Common.{◌≢◌, ℕ, ◌-◌, ◌/◌, ◌<◌, ◌≤◌, get_or}
 use Rattle.learning.specs.Turning.{Above}
 use Rattle.learning.proofs.decision_above.Given as goal
 

@@ -6,3 +6,5 @@ pub mod Assuming
 pub mod Placing
 -- what is held when literals come and go
 pub mod Holding
+-- the same of the code's trail, step by step
+pub mod Steps

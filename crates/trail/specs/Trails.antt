@@ -1,7 +1,7 @@
 -- The trail: literals that hold, in the order in which they came; a mark of 1 is a decision.
-use Rattle.std.specs.Prelude.{◌≡◌, ℕ, zero, suc, ◌+◌, ◌-◌, ◌*◌, ◌/◌, ◌%◌, ◌<◌, ◌≤◌, true, cond, ◌⊎◌, List, length, count_by, ◌==◌, nat_eq, nat_lt, slice_index, slice_index_or}
+use Rattle.std.specs.Prelude.{◌≡◌, ℕ, zero, suc, ◌+◌, ◌-◌, ◌*◌, ◌/◌, ◌%◌, ◌<◌, ◌≤◌, true, cond, ◌⊎◌, List, length, count_by, ◌==◌, nat_eq, nat_lt, slice_index, slice_index_or, slice_set, ◌≢◌}
 use Rattle.clauses.specs.Formulas.{Assignment, value, Models}
-use Rattle.trail.specs.declared.Trail.{Trail}
+use Rattle.trail.specs.Views.{TrailView, formula_of, variables_of}
 
 -- a literal is true, or false, under the values: 0 is not known, 1 true, 2 false
 abbrev pub IsTrueUnder : List ℕ → ℕ → Type 0
@@ -61,18 +61,61 @@ unfoldable pub number : ℕ → List ℕ → ℕ → ℕ → ℕ
 number budget marks n zero = budget
 number budget marks n (suc k) = 3 * number budget marks n k + digit marks n k
 
--- the same of the code's trail
-abbrev pub Good : List (List ℕ) → ℕ → Trail → Type 0
-Good f v t = Held f v t.values.now t.literals.now t.marks.now t.len
+-- the same of the code's trail, of at most 2³¹ - 2 variables
+pub record Good (t : TrailView) : Type 0 where
+  pub held : Held (formula_of t) (variables_of t) t.values t.literals t.marks t.len
+  pub few : variables_of t < 2147483647
+  pub units : t.units.variables ≡ variables_of t
 
-abbrev pub Jammed : List (List ℕ) → Trail → Type 0
-Jammed f t = Stuck f t.literals.now t.marks.now t.len
+abbrev pub Jammed : TrailView → Type 0
+Jammed t = Stuck (formula_of t) t.literals t.marks t.len
 
-abbrev pub Later : Trail → Trail → Type 0
-Later s t = FollowsOn s.literals.now s.marks.now s.len t.literals.now t.marks.now t.len
+abbrev pub Later : TrailView → TrailView → Type 0
+Later s t = FollowsOn s.literals s.marks s.len t.literals t.marks t.len
 
-abbrev pub AssumedT : List ℕ → ℕ → Trail → Type 0
-AssumedT assumptions k t = Assumed assumptions k t.literals.now t.marks.now t.len
+abbrev pub AssumedT : List ℕ → ℕ → TrailView → Type 0
+AssumedT assumptions k t = Assumed assumptions k t.literals t.marks t.len
 
-abbrev pub rank : ℕ → ℕ → Trail → ℕ
-rank v budget t = number budget t.marks.now t.len v
+abbrev pub rank : ℕ → TrailView → ℕ
+rank budget t = number budget t.marks t.len (variables_of t)
+
+-- the number falls, or does not rise
+abbrev pub Falls : TrailView → TrailView → Type 0
+Falls s t = (budget : ℕ) → rank budget t < rank budget s
+
+abbrev pub FallsOrStays : TrailView → TrailView → Type 0
+FallsOrStays s t = (budget : ℕ) → rank budget t ≤ rank budget s
+
+-- a trail over the same clauses
+pub record SameClauses (s t : TrailView) : Type 0 where
+  pub problem : t.problem ≡ s.problem
+  pub units : t.units ≡ s.units
+
+-- a literal is true in every model that has the decisions before a place
+abbrev pub Forced : TrailView → ℕ → ℕ → Type 0
+Forced t before l = (α : Assignment) → Models (formula_of t) α → Decided t.literals t.marks α before → value α l ≡ true
+
+-- no assignment is a model
+abbrev pub NoneModels : List (List ℕ) → Type 0
+NoneModels f = (α : Assignment) → Models f α → ⊥
+
+-- no decision stands before the root
+abbrev pub Rooted : List ℕ → ℕ → Type 0
+Rooted marks root = (q : ℕ) → q < root → slice_index marks q ≢ 1
+
+-- one literal more stands on the trail, with a mark
+pub record Put (s : TrailView) (l mark : ℕ) (t : TrailView) : Type 0 where
+  pub clauses : SameClauses s t
+  pub values : t.values ≡ slice_set s.values (l / 2) (1 + l % 2)
+  pub literals : t.literals ≡ slice_set s.literals s.len l
+  pub marks : t.marks ≡ slice_set s.marks s.len mark
+  pub len : t.len ≡ s.len + 1
+
+-- one less, which has no value any more
+pub record Popped (s t : TrailView) (l : ℕ) : Type 0 where
+  pub clauses : SameClauses s t
+  pub values : t.values ≡ slice_set s.values (l / 2) 0
+  pub literals : t.literals ≡ s.literals
+  pub marks : t.marks ≡ s.marks
+  pub len : s.len ≡ t.len + 1
+  pub is : l ≡ slice_index s.literals t.len

@@ -2,64 +2,183 @@
 // it is what falls: no step but one from a counted budget makes it larger as a number in base 3.
 #![tactic(auto)]
 
-ghost use Rattle.std.specs.Prelude.{◌≡◌, ℕ, ◌+◌, ◌-◌, ◌/◌, ◌%◌, ◌<◌, ◌≤◌, true, false, length, ◌==◌, slice_index, slice_set};
+ghost use Rattle.std.specs.Prelude.{◌≡◌, ℕ, ◌+◌, ◌-◌, ◌/◌, ◌%◌, ◌<◌, ◌≤◌, true, [], ◌∷◌, length, OnOk, OnErr, take, ◌==◌, slice_index, slice_set};
 ghost use Rattle.clauses.specs.Formulas.{Assignment, value, negation, Models};
-ghost use Rattle.clauses.specs.Stores.{formula_of};
-ghost use Rattle.trail.specs.Trails.{Decided, Good, Jammed, Later, rank};
+ghost use Rattle.clauses.specs.Stores.{Known, AddedIf};
+ghost use Rattle.trail.specs.Views.{formula_of, variables_of};
+ghost use Rattle.trail.specs.Trails.{Decided, Good, Jammed, Later, Falls, SameClauses, Forced, NoneModels, Rooted, Put, Popped};
 
-use clauses::{Store, negated};
+use clauses::{Clauses, Store, Unfit, negated};
+use std::marker::Model;
 
-// A value for each variable (0 not known, 1 true, 2 false), the literals that are true in the order
-// in which they came, and for each of those whether it was decided (1) or implied (0).
+// The marks of literals on the trail, in words that are lent.
+const IMPLIED: u32 = 0;
+
+const DECIDED: u32 = 1;
+
+// The clauses; a value for each variable (0 not known, 1 true, 2 false), the literals that are true in
+// the order in which they came, and for each of those whether it was decided or implied. The clauses are
+// a problem's, and those of one literal each that came later.
 #[derive(Drop)]
 pub struct Trail<'a> {
-    pub values: &'a mut [u32],
-    pub literals: &'a mut [u32],
-    pub marks: &'a mut [u32],
-    pub len: usize,
+    problem: Clauses<'a>,
+    units: Store<'a>,
+    values: &'a mut [u32],
+    literals: &'a mut [u32],
+    marks: &'a mut [u32],
+    len: usize,
 }
 
-// Whether a literal is true under the values.
-pub fn is_true(values: &[u32], literal: u32) -> bool
-    requires { literal / 2 < length values.now }
-    ensures { result ≡ (slice_index values.now (literal / 2) == 1 + literal % 2) }
-{
-    values[(literal / 2) as usize] == 1 + literal % 2
+impl<'a> Model for Trail<'a> {
+    ghost use Rattle.trail.specs.Views.{TrailView};
+
+    ghost Value = { TrailView };
+
+    ghost use Rattle.trail.specs.Keeping.{trail_view, IsGood};
+
+    ghost view = { trail_view };
+
+    ghost invariant = { IsGood };
 }
 
-// Whether it is false.
-pub fn is_false(values: &[u32], literal: u32) -> bool
-    requires { literal / 2 < length values.now }
-    ensures { result ≡ (slice_index values.now (literal / 2) == 2 - literal % 2) }
-{
-    values[(literal / 2) as usize] == 2 - literal % 2
+// There is no model of the clauses.
+#[derive(Clone, Copy, PartialEq, Eq, Debug)]
+pub struct NoModel;
+
+impl<'a> Trail<'a> {
+    // Nothing is known yet.
+    pub fn new(
+        problem: Clauses<'a>,
+        units: Store<'a>,
+        values: &'a mut [u32],
+        literals: &'a mut [u32],
+        marks: &'a mut [u32],
+    ) -> Trail<'a>
+        requires few { problem.variables < 2147483647 }
+        requires units { units.variables ≡ problem.variables }
+        requires values_long { length values.old ≡ problem.variables }
+        requires literals_long { length literals.old ≡ problem.variables }
+        requires marks_long { length marks.old ≡ problem.variables }
+        ensures problem { result.problem ≡ problem.entry }
+        ensures units { result.units ≡ units.entry }
+        ensures len { result.len ≡ 0 }
+    {
+        values.fill(0);
+        Trail {
+            problem,
+            units,
+            values,
+            literals,
+            marks,
+            len: 0,
+        }
+    }
 }
 
 impl Trail<'_> {
+    // What every trail keeps, for proofs.
+    pub fn keeps(&self)
+        ensures { Good self.now }
+    {
+        let _ = &self.len;
+    }
+
+    pub fn variables(&self) -> usize
+        ensures is { result ≡ variables_of self.now }
+        ensures few { result < 2147483647 }
+    {
+        self.values.len()
+    }
+
+    pub fn problem(&self) -> &Clauses<'_>
+        ensures is { result.now ≡ self.now.problem }
+    {
+        &self.problem
+    }
+
+    pub fn units(&self) -> &Store<'_>
+        ensures is { result.now ≡ self.now.units }
+    {
+        &self.units
+    }
+
+    pub fn values(&self) -> &[u32]
+        ensures is { result.now ≡ self.now.values }
+    {
+        self.values
+    }
+
+    // The literals that are true, in the order in which they came.
+    pub fn literals(&self) -> &[u32]
+        ensures is { result.now ≡ take self.now.len self.now.literals }
+        ensures known { Known (variables_of self.now) result.now }
+    {
+        &self.literals[..self.len]
+    }
+
+    pub fn len(&self) -> usize
+        ensures is { result ≡ self.now.len }
+        ensures few { result ≤ variables_of self.now }
+    {
+        self.len
+    }
+
+    // The literal at a place.
+    pub fn literal(&self, place: usize) -> u32
+        requires { place < self.now.len }
+        ensures is { result ≡ slice_index self.now.literals place }
+        ensures known { result / 2 < variables_of self.now }
+    {
+        prove!(place < self.len);
+        self.literals[place]
+    }
+
+    // Whether the literal at a place was decided.
+    pub fn is_decided(&self, place: usize) -> bool
+        requires { place < self.now.len }
+        ensures { result ≡ (slice_index self.now.marks place == 1) }
+    {
+        prove!(place < self.len);
+        self.marks[place] == DECIDED
+    }
+
+    // The place of the first decision, or the trail's length.
+    pub fn first_decision(&self) -> usize
+        ensures rooted { Rooted self.now.marks result }
+        ensures low { result ≤ self.now.len }
+        ensures decided { result < self.now.len → slice_index self.now.marks result ≡ 1 }
+    {
+        let marks = &self.marks[..self.len];
+        marks
+            .iter()
+            .position(|mark| *mark == DECIDED)
+            .unwrap_or(self.len)
+    }
+
     // Whether a literal is true, or false.
     pub fn holds(&self, literal: u32) -> bool
-        requires { literal / 2 < length self.now.values.now }
-        ensures { result ≡ (slice_index self.now.values.now (literal / 2) == 1 + literal % 2) }
+        requires { literal / 2 < variables_of self.now }
+        ensures { result ≡ (slice_index self.now.values (literal / 2) == 1 + literal % 2) }
     {
-        is_true(self.values, literal)
+        prove!(((literal / 2) as usize) < self.values.len());
+        self.values[(literal / 2) as usize] == 1 + literal % 2
     }
 
     pub fn fails(&self, literal: u32) -> bool
-        requires { literal / 2 < length self.now.values.now }
-        ensures { result ≡ (slice_index self.now.values.now (literal / 2) == 2 - literal % 2) }
+        requires { literal / 2 < variables_of self.now }
+        ensures { result ≡ (slice_index self.now.values (literal / 2) == 2 - literal % 2) }
     {
-        is_false(self.values, literal)
+        prove!(((literal / 2) as usize) < self.values.len());
+        self.values[(literal / 2) as usize] == 2 - literal % 2
     }
 
     // One literal more.
     fn put(&mut self, literal: u32, mark: u32)
-        requires known { literal / 2 < length self.old.values.now }
-        requires literals_room { self.old.len < length self.old.literals.now }
-        requires marks_room { self.old.len < length self.old.marks.now }
-        ensures values { self.new.values.now ≡ slice_set self.old.values.now (literal / 2) (1 + literal % 2) }
-        ensures literals { self.new.literals.now ≡ slice_set self.old.literals.now self.old.len literal }
-        ensures marks { self.new.marks.now ≡ slice_set self.old.marks.now self.old.len mark }
-        ensures len { self.new.len ≡ self.old.len + 1 }
+        requires known { literal / 2 < variables_of self.old }
+        requires free { slice_index self.old.values (literal / 2) ≡ 0 }
+        requires implied { (α : Assignment) → Models (formula_of self.old) α → Decided self.old.literals self.old.marks α self.old.len → (mark ≡ 1 → value α literal ≡ true) → value α literal ≡ true }
+        ensures put { Put self.old literal mark self.new }
+        ensures room { self.old.len < variables_of self.old }
     {
         self.values[(literal / 2) as usize] = 1 + literal % 2;
         self.literals[self.len] = literal;
@@ -67,90 +186,111 @@ impl Trail<'_> {
         self.len += 1;
     }
 
-    // A literal that is true in every model that has the decisions.
-    pub fn imply(&mut self, problem: &Store, variables: usize, literal: u32)
-        requires good { Good (formula_of problem.now) variables self.old }
-        requires known { literal / 2 < variables }
-        requires free { slice_index self.old.values.now (literal / 2) ≡ 0 }
-        requires implied { (α : Assignment) → Models (formula_of problem.now) α → Decided self.old.literals.now self.old.marks.now α self.old.len → value α literal ≡ true }
-        ensures good { Good (formula_of problem.now) variables self.new }
-        ensures less { (budget : ℕ) → rank variables budget self.new < rank variables budget self.old }
-        ensures later { Later self.old self.new }
-        ensures len { self.new.len ≡ self.old.len + 1 }
-        ensures values { self.new.values.now ≡ slice_set self.old.values.now (literal / 2) (1 + literal % 2) }
+    // One literal less: the last one.
+    fn pop(&mut self) -> u32
+        requires { 0 < self.old.len }
+        ensures popped { Popped self.old self.new result }
+        ensures known { result / 2 < variables_of self.old }
+        ensures free { slice_index self.new.values (result / 2) ≡ 0 }
     {
-        self.put(literal, 0);
+        self.len -= 1;
+        let literal = self.literals[self.len];
+        self.values[(literal / 2) as usize] = 0;
+        literal
     }
 
-    // A literal to try.
-    pub fn decide(&mut self, problem: &Store, variables: usize, literal: u32)
-        requires good { Good (formula_of problem.now) variables self.old }
-        requires known { literal / 2 < variables }
-        requires free { slice_index self.old.values.now (literal / 2) ≡ 0 }
-        ensures good { Good (formula_of problem.now) variables self.new }
-        ensures less { (budget : ℕ) → rank variables budget self.new < rank variables budget self.old }
-        ensures literals { self.new.literals.now ≡ slice_set self.old.literals.now self.old.len literal }
-        ensures marks { self.new.marks.now ≡ slice_set self.old.marks.now self.old.len 1 }
+    // A literal that is true in every model that has the decisions.
+    pub fn imply(&mut self, literal: u32)
+        requires known { literal / 2 < variables_of self.old }
+        requires free { slice_index self.old.values (literal / 2) ≡ 0 }
+        requires implied { Forced self.old self.old.len literal }
+        ensures clauses { SameClauses self.old self.new }
+        ensures less { Falls self.old self.new }
+        ensures later { Later self.old self.new }
+        ensures len { self.new.len ≡ self.old.len + 1 }
+        ensures values { self.new.values ≡ slice_set self.old.values (literal / 2) (1 + literal % 2) }
+    {
+        self.keeps();
+        self.put(literal, IMPLIED);
+    }
+
+    // A decision.
+    pub fn decide(&mut self, literal: u32)
+        requires known { literal / 2 < variables_of self.old }
+        requires free { slice_index self.old.values (literal / 2) ≡ 0 }
+        ensures clauses { SameClauses self.old self.new }
+        ensures less { Falls self.old self.new }
+        ensures literals { self.new.literals ≡ slice_set self.old.literals self.old.len literal }
+        ensures marks { self.new.marks ≡ slice_set self.old.marks self.old.len 1 }
         ensures len { self.new.len ≡ self.old.len + 1 }
     {
-        self.put(literal, 1);
+        self.keeps();
+        self.put(literal, DECIDED);
     }
 
     // Goes back to the first so many literals.
-    pub fn pop_to(&mut self, problem: &Store, variables: usize, keep: usize)
-        requires good { Good (formula_of problem.now) variables self.old }
+    pub fn pop_to(&mut self, keep: usize)
         requires low { keep ≤ self.old.len }
-        ensures good { Good (formula_of problem.now) variables self.new }
-        ensures literals { self.new.literals.now ≡ self.old.literals.now }
-        ensures marks { self.new.marks.now ≡ self.old.marks.now }
+        ensures clauses { SameClauses self.old self.new }
+        ensures literals { self.new.literals ≡ self.old.literals }
+        ensures marks { self.new.marks ≡ self.old.marks }
         ensures len { self.new.len ≡ keep }
-        ensures freed { (q : ℕ) → keep ≤ q → q < self.old.len → slice_index self.new.values.now (slice_index self.old.literals.now q / 2) ≡ 0 }
+        ensures freed { (q : ℕ) → keep ≤ q → q < self.old.len → slice_index self.new.values (slice_index self.old.literals q / 2) ≡ 0 }
     {
-        while self.len > keep {
-            self.len -= 1;
-            let literal = self.literals[self.len];
-            self.values[(literal / 2) as usize] = 0;
+        while self.len() > keep {
+            self.pop();
         }
     }
 
     // Goes back to a decision, and puts in its place the negation of a literal at or above it, which
     // is true in every model that has the decisions before.
-    pub fn jump(&mut self, problem: &Store, variables: usize, decision: usize, place: usize)
-        requires good { Good (formula_of problem.now) variables self.old }
+    pub fn jump(&mut self, decision: usize, place: usize)
         requires order { decision ≤ place }
         requires within { place < self.old.len }
-        requires decided { slice_index self.old.marks.now decision ≡ 1 }
-        requires forced { (α : Assignment) → Models (formula_of problem.now) α → Decided self.old.literals.now self.old.marks.now α decision → value α (negation (slice_index self.old.literals.now place)) ≡ true }
-        ensures good { Good (formula_of problem.now) variables self.new }
-        ensures less { (budget : ℕ) → rank variables budget self.new < rank variables budget self.old }
+        requires decided { slice_index self.old.marks decision ≡ 1 }
+        requires forced { Forced self.old decision (negation (slice_index self.old.literals place)) }
+        ensures clauses { SameClauses self.old self.new }
+        ensures less { Falls self.old self.new }
         ensures later { Later self.old self.new }
         ensures len { self.new.len ≡ decision + 1 }
     {
-        let literal = negated(self.literals[place]);
-        self.pop_to(problem, variables, decision);
-        self.put(literal, 0);
+        self.keeps();
+        let literal = negated(self.literal(place));
+        self.pop_to(decision);
+        self.put(literal, IMPLIED);
     }
 
-    // Goes back to the last decision and turns it round; false where there is none, and so no model;
-    // then nothing is left on the trail.
-    pub fn flip(&mut self, problem: &Store, variables: usize) -> bool
-        requires good { Good (formula_of problem.now) variables self.old }
-        requires jammed { Jammed (formula_of problem.now) self.old }
-        ensures good { result ≡ true → Good (formula_of problem.now) variables self.new }
-        ensures still { Good (formula_of problem.now) variables self.new }
+    // Goes back to the last decision and turns it round. Where there is none, there is no model; then
+    // nothing is left on the trail.
+    pub fn flip(&mut self) -> Result<(), NoModel>
+        requires jammed { Jammed self.old }
+        ensures clauses { SameClauses self.old self.new }
         ensures later { Later self.old self.new }
-        ensures less { result ≡ true → (budget : ℕ) → rank variables budget self.new < rank variables budget self.old }
-        ensures none { result ≡ false → (α : Assignment) → Models (formula_of problem.now) α → ⊥ }
+        ensures less { OnOk result (Falls self.old self.new) }
+        ensures none { OnErr result (NoneModels (formula_of self.old)) }
     {
-        while self.len > 0 {
-            self.len -= 1;
-            let literal = self.literals[self.len];
-            self.values[(literal / 2) as usize] = 0;
-            if self.marks[self.len] == 1 {
-                self.put(negated(literal), 0);
-                return true;
+        self.keeps();
+        while self.len() > 0 {
+            let decided = self.is_decided(self.len() - 1);
+            let literal = self.pop();
+            if decided {
+                self.put(negated(literal), IMPLIED);
+                return Ok(());
             }
         }
-        false
+        Err(NoModel)
+    }
+
+    // One clause more, of one literal, and the literals stay as they are; or it is refused, and nothing
+    // changes.
+    pub fn add(&mut self, literal: u32) -> Result<(), Unfit>
+        ensures added { AddedIf (literal ∷ []) self.old.units self.new.units result }
+        ensures problem { self.new.problem ≡ self.old.problem }
+        ensures values { self.new.values ≡ self.old.values }
+        ensures literals { self.new.literals ≡ self.old.literals }
+        ensures marks { self.new.marks ≡ self.old.marks }
+        ensures len { self.new.len ≡ self.old.len }
+    {
+        self.units.add(&[literal])
     }
 }

@@ -1,23 +1,5 @@
-use Rattle.std.proofs.Common.{refl, arith}
-use Rattle.trail.proofs.Numbers.{falls_by_one_more}
-use Rattle.trail.proofs.Holding.{room_for_one, held_more}
+use Rattle.trail.proofs.Steps.{falls_put}
 use Rattle.trail.proofs.Trail.decide.Goals as goal
 
-pub put-requires : goal.put-requires
-put-requires c =
-    let i = c.requires.good in
-    let r = room_for_one _ _ _ _ _ _ _ _ _ _ 0 i c.requires.free c.requires.known refl refl refl in
-    record { known = omega (arith, c.requires.known, i.size); literals_room = omega (arith, i.literals_room); marks_room = omega (arith, i.marks_room) }
-
-pub returns : goal.returns
-returns c =
-    let i = c.requires.good in
-    let p = c.put.ensures in
-    let r = room_for_one _ _ _ _ _ _ _ _ _ _ 0 i c.requires.free c.requires.known refl refl refl in
-    record {
-      good = held_more _ _ _ _ _ _ _ _ _ _ _ i c.requires.free c.requires.known p.values p.literals p.marks _ p.len (λ α m d given. given refl);
-      less = λ budget. falls_by_one_more budget _ _ _ _ p.marks _ _ p.len r;
-      literals = p.literals;
-      marks = p.marks;
-      len = p.len;
-    }
+pub returns-clause-less : goal.returns-clause-less
+returns-clause-less c = falls_put _ _ _ _ c.keeps.ensures c.requires.known c.requires.free c.put.ensures.put

@@ -1,14 +1,13 @@
 use Rattle.std.proofs.Common.{◌≡◌, ◌≤◌}
-use Rattle.clauses.specs.Stores.{formula_of}
-use Rattle.trail.specs.Trails.{Good, Jammed}
+use Rattle.trail.specs.Trails.{Jammed, SameClauses}
 use Rattle.trail.proofs.Trail.flip.Given as goal
 
 abbrev pub invariant-loop-self : goal.invariant-loop-self
 invariant-loop-self l = record {
-  good : Good (formula_of l.problem) l.variables l.self;
-  jammed : Jammed (formula_of l.problem) l.self;
-  literals : l.self.literals.now ≡ l.initial.self.literals.now;
-  marks : l.self.marks.now ≡ l.initial.self.marks.now;
+  clauses : SameClauses l.initial.self l.self;
+  jammed : Jammed l.self;
+  literals : l.self.literals ≡ l.initial.self.literals;
+  marks : l.self.marks ≡ l.initial.self.marks;
   low : l.self.len ≤ l.initial.self.len;
 }
 

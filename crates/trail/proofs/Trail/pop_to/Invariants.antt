@@ -1,15 +1,14 @@
 use Rattle.std.proofs.Common.{◌≡◌, ℕ, ◌-◌, ◌/◌, ◌<◌, ◌≤◌, get_or}
-use Rattle.clauses.specs.Stores.{formula_of}
-use Rattle.trail.specs.Trails.{Good}
+use Rattle.trail.specs.Trails.{SameClauses}
 use Rattle.trail.proofs.Trail.pop_to.Given as goal
 
 abbrev pub invariant-loop-self : goal.invariant-loop-self
 invariant-loop-self l = record {
-  good : Good (formula_of l.problem) l.variables l.self;
-  literals : l.self.literals.now ≡ l.initial.self.literals.now;
-  marks : l.self.marks.now ≡ l.initial.self.marks.now;
+  clauses : SameClauses l.initial.self l.self;
+  literals : l.self.literals ≡ l.initial.self.literals;
+  marks : l.self.marks ≡ l.initial.self.marks;
   low : l.keep ≤ l.self.len;
-  freed : (q : ℕ) → l.self.len ≤ q → q < l.initial.self.len → get_or l.self.values.now (get_or l.initial.self.literals.now q 0 / 2) 0 ≡ 0;
+  freed : (q : ℕ) → l.self.len ≤ q → q < l.initial.self.len → get_or l.self.values (get_or l.initial.self.literals q 0 / 2) 0 ≡ 0;
 }
 
 abbrev pub decreases-loop-self : goal.decreases-loop-self

@@ -1,0 +1,139 @@
+-- What the steps of the code's trail leave: it is good, falls, and has no decision that was none before.
+use Rattle.std.proofs.Common.{◌≡◌, ℕ, ◌+◌, ◌/◌, ◌%◌, ◌<◌, ◌≤◌, true, List, [], ◌∷◌, ◌++◌, length, get_or, set, sym, refl, ap, ◌∙◌, subst, arith}
+use Rattle.std.proofs.lemmas.List.{get_or-set_same}
+use Rattle.std.proofs.Math.ListN.{get_or-append, length-append}
+use Rattle.std.proofs.Common.{append_assoc, append-nil}
+use Rattle.std.specs.Prelude.{Ok, Err, Result}
+use Rattle.clauses.specs.declared.store.Unfit.{Unfit}
+use Rattle.clauses.specs.declared.store.Unfit.TheVariants.{Literal, Room}
+use Rattle.clauses.specs.Stores.{AddedIf}
+use Rattle.clauses.specs.Formulas.{Assignment, value, negation, Satisfies, Models}
+use Rattle.clauses.proofs.Literals.{negation_half}
+use Rattle.trail.specs.Views.{TrailView, formula_of, variables_of}
+use Rattle.trail.specs.Trails.{Decided, Stuck, Held, Good, Jammed, Later, Falls, SameClauses, NoneModels, Put, Popped, number}
+use Rattle.trail.proofs.Holding.{room_for_one, held_more, held_less, stuck_less, turned_round}
+use Rattle.trail.proofs.Numbers.{falls_by_one_more, falls_at_decision}
+use Rattle.trail.proofs.Assuming.{later_back, later_put}
+
+pub same_formula : (s t : TrailView) → SameClauses s t → formula_of t ≡ formula_of s
+same_formula s t same = ap (λ p. p.formula ++ t.units.formula) same.problem ∙ ap (λ u. s.problem.formula ++ u.formula) same.units
+
+-- the same clauses and what is held of them
+good_same : (s t : TrailView) → SameClauses s t → Good s → Held (formula_of s) (variables_of s) t.values t.literals t.marks t.len → Good t
+good_same s t same good held =
+    let v : variables_of t ≡ variables_of s = ap (λ p. p.variables) same.problem in
+    let u : t.units.variables ≡ s.units.variables = ap (λ x. x.variables) same.units in
+    record {
+      held = subst (λ (f : List (List ℕ)). Held f (variables_of t) t.values t.literals t.marks t.len) (sym (same_formula s t same)) (subst (λ (n : ℕ). Held (formula_of s) n t.values t.literals t.marks t.len) (sym v) held);
+      few = omega (arith, good.few);
+      units = u ∙ good.units ∙ sym v;
+    }
+
+-- one literal more
+module _ (s t : TrailView) (l mark : ℕ) (good : Good s) (known : l / 2 < variables_of s) (free : get_or s.values (l / 2) 0 ≡ 0) (put : Put s l mark t) where
+  pub room : s.len < variables_of s
+  room = room_for_one _ _ _ _ _ _ _ _ _ _ mark good.held free known put.values put.literals put.marks
+
+  pub good_put : ((α : Assignment) → Models (formula_of s) α → Decided s.literals s.marks α s.len → (mark ≡ 1 → value α l ≡ true) → value α l ≡ true) → Good t
+  good_put implied = good_same s t put.clauses good (held_more _ _ _ _ _ _ _ _ _ _ mark good.held free known put.values put.literals put.marks _ put.len implied)
+
+  pub falls_put : Falls s t
+  falls_put budget =
+      subst (λ (v : ℕ). number budget t.marks t.len v < number budget s.marks s.len (variables_of s)) (sym (ap (λ p. p.variables) put.clauses.problem))
+      (falls_by_one_more budget s.marks t.marks s.len mark put.marks t.len (variables_of s) put.len room)
+
+-- one literal less
+module _ (s t : TrailView) (l : ℕ) (good : Good s) (popped : Popped s t l) where
+  pub known_popped : l / 2 < variables_of s
+  known_popped = subst (λ (x : ℕ). x / 2 < variables_of s) (sym popped.is) (good.held.known t.len (omega (arith, popped.len)))
+
+  pub freed_popped : get_or t.values (l / 2) 0 ≡ 0
+  freed_popped = ap (λ (xs : List ℕ). get_or xs (l / 2) 0) popped.values ∙ get_or-set_same s.values (l / 2) 0 0 (omega (arith, known_popped, good.held.size))
+
+  pub good_popped : Good t
+  good_popped =
+      good_same s t popped.clauses good
+      (subst (λ (xs : List ℕ). Held (formula_of s) (variables_of s) t.values xs t.marks t.len) (sym popped.literals)
+      (subst (λ (xs : List ℕ). Held (formula_of s) (variables_of s) t.values s.literals xs t.len) (sym popped.marks)
+      (held_less (formula_of s) (variables_of s) s.values s.literals s.marks s.len t.len popped.len good.held t.values (popped.values ∙ ap (λ (x : ℕ). set s.values (x / 2) 0) popped.is))))
+
+  pub jammed_popped : Jammed s → (get_or s.marks t.len 0 ≡ 1 → ⊥) → Jammed t
+  jammed_popped jammed implied =
+      subst (λ (f : List (List ℕ)). Stuck f t.literals t.marks t.len) (sym (same_formula s t popped.clauses))
+      (subst (λ (xs : List ℕ). Stuck (formula_of s) xs t.marks t.len) (sym popped.literals)
+      (subst (λ (xs : List ℕ). Stuck (formula_of s) s.literals xs t.len) (sym popped.marks)
+      (stuck_less (formula_of s) s.literals s.marks s.len t.len popped.len jammed implied)))
+
+-- where no model has all decisions, the last one is false in those that have the others
+module _ (s t : TrailView) (l : ℕ) (popped : Popped s t l) where
+  pub turned_popped : Jammed s → (α : Assignment) → Models (formula_of t) α → Decided t.literals t.marks α t.len → value α (negation l) ≡ true
+  turned_popped jammed α m d =
+      ap (λ (x : ℕ). value α (negation x)) popped.is
+      ∙ turned_round (formula_of s) s.literals s.marks s.len t.len popped.len jammed α (subst (λ (f : List (List ℕ)). Models f α) (same_formula s t popped.clauses) m)
+      (subst (λ (xs : List ℕ). Decided xs s.marks α t.len) popped.literals (subst (λ (xs : List ℕ). Decided t.literals xs α t.len) popped.marks d))
+
+-- an implied literal in the place of a decision, where the literals after it have gone
+module _ (s t u : TrailView) (l place : ℕ) (good : Good s) (literals : t.literals ≡ s.literals) (marks : t.marks ≡ s.marks) (len : t.len ≡ place) (clauses : SameClauses s t) (low : place < s.len) (put : Put t l 0 u) where
+  inside : place < length s.marks
+  inside = omega (arith, good.held.marks_room, good.held.room)
+
+  new_marks : u.marks ≡ set s.marks place 0
+  new_marks = put.marks ∙ ap (λ (xs : List ℕ). set xs t.len 0) marks ∙ ap (λ (y : ℕ). set s.marks y 0) len
+
+  pub falls_turned : get_or s.marks place 0 ≡ 1 → Falls s u
+  falls_turned one budget =
+      let v : variables_of u ≡ variables_of s = ap (λ p. p.variables) put.clauses.problem ∙ ap (λ p. p.variables) clauses.problem in
+      subst (λ (n : ℕ). number budget u.marks u.len n < number budget s.marks s.len (variables_of s)) (sym v)
+      (falls_at_decision budget s.marks u.marks place 0 new_marks u.len s.len (variables_of s) refl (omega (arith, put.len, len)) inside one low (omega (arith, good.held.room)))
+
+  pub later_turned : Later s u
+  later_turned =
+      later_put s.literals s.marks u.literals u.marks s.len place l u.len (omega arith) inside
+      (put.literals ∙ ap (λ (xs : List ℕ). set xs t.len l) literals ∙ ap (λ (y : ℕ). set s.literals y l) len) new_marks (omega (arith, put.len, len))
+
+pub same_none : (s : TrailView) → SameClauses s s
+same_none s = record { problem = refl; units = refl }
+
+pub same_on : (s t u : TrailView) → SameClauses s t → SameClauses t u → SameClauses s u
+same_on s t u first second = record { problem = second.problem ∙ first.problem; units = second.units ∙ first.units }
+
+-- a model of more clauses is one of the first
+pub models_first : (f g : List (List ℕ)) (α : Assignment) → Models (f ++ g) α → Models f α
+models_first f g α m k h = subst (Satisfies α) (get_or-append f g [] k h) (m k (omega (arith, length-append f g)))
+
+-- with more clauses all that is held stays
+pub good_added : (s t : TrailView) (g : List (List ℕ)) → Good s → t.problem ≡ s.problem → t.units.formula ≡ s.units.formula ++ g → t.units.variables ≡ s.units.variables → t.values ≡ s.values → t.literals ≡ s.literals → t.marks ≡ s.marks → t.len ≡ s.len → Good t
+good_added s t g good problem units same values literals marks len =
+    let v : variables_of t ≡ variables_of s = ap (λ p. p.variables) problem in
+    let f : formula_of t ≡ formula_of s ++ g = ap (λ p. p.formula ++ t.units.formula) problem ∙ ap (λ u. s.problem.formula ++ u) units ∙ sym (append_assoc s.problem.formula s.units.formula g) in
+    let h = good.held in
+    let more : Held (formula_of s ++ g) (variables_of s) s.values s.literals s.marks s.len = record {
+      size = h.size;
+      room = h.room;
+      literals_room = h.literals_room;
+      marks_room = h.marks_room;
+      small = h.small;
+      known = h.known;
+      stands = h.stands;
+      implied = λ α m p l d. h.implied α (models_first (formula_of s) g α m) p l d;
+    } in
+    record {
+      held =
+          subst (λ (x : List (List ℕ)). Held x (variables_of t) t.values t.literals t.marks t.len) (sym f)
+          (subst (λ (x : ℕ). Held (formula_of s ++ g) x t.values t.literals t.marks t.len) (sym v)
+          (subst (λ (x : List ℕ). Held (formula_of s ++ g) (variables_of s) x t.literals t.marks t.len) (sym values)
+          (subst (λ (x : List ℕ). Held (formula_of s ++ g) (variables_of s) s.values x t.marks t.len) (sym literals)
+          (subst (λ (x : List ℕ). Held (formula_of s ++ g) (variables_of s) s.values s.literals x t.len) (sym marks)
+          (subst (λ (x : ℕ). Held (formula_of s ++ g) (variables_of s) s.values s.literals s.marks x) (sym len) more)))));
+      few = omega (arith, good.few);
+      units = same ∙ good.units ∙ sym v;
+    }
+
+pub good_kept : (s t : TrailView) → Good s → t.problem ≡ s.problem → t.units ≡ s.units → t.values ≡ s.values → t.literals ≡ s.literals → t.marks ≡ s.marks → t.len ≡ s.len → Good t
+good_kept s t good problem units = good_added s t [] good problem (ap (λ u. u.formula) units ∙ sym (append-nil s.units.formula)) (ap (λ u. u.variables) units)
+
+-- a clause is added, or refused
+pub good_either : (s t : TrailView) (c : List ℕ) (r : Result (Unit {0}) Unfit) → Good s → AddedIf c s.units t.units r → t.problem ≡ s.problem → t.values ≡ s.values → t.literals ≡ s.literals → t.marks ≡ s.marks → t.len ≡ s.len → Good t
+good_either s t c (Ok _) good added problem = good_added s t (c ∷ []) good problem added.formula added.memory.variables
+good_either s t c (Err Literal) good added problem = good_kept s t good problem added.1
+good_either s t c (Err Room) good added problem = good_kept s t good problem added.1

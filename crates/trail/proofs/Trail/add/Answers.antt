@@ -1,0 +1,7 @@
+use Rattle.std.proofs.Common.{refl}
+use Rattle.trail.specs.Keeping.{trail_view}
+use Rattle.trail.proofs.Steps.{good_either}
+use Rattle.trail.proofs.Trail.add.Goals as goal
+
+pub invariant_of-self : goal.invariant_of-self
+invariant_of-self c = good_either (trail_view c.self.inside) _ _ c.add.result c.self.invariant c.add.ensures refl refl refl refl refl

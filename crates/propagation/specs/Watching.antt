@@ -1,6 +1,6 @@
 -- Who watches which literal: chains through lent memory, and what is put in front of them.
 use Rattle.std.specs.Prelude.{◌≡◌, ℕ, ◌+◌, ◌*◌, min, slice_index, slice_set}
-use Rattle.propagation.specs.declared.Watches.{Watches}
+use Rattle.propagation.specs.declared.watches.Watches.{Watches}
 
 -- a node stands first in the chain of a literal, and what stood first there is linked behind it
 pub record ChainedFirst (s t : Watches) (at literal node : ℕ) : Type 0 where

@@ -1,16 +1,17 @@
 -- What the steps of the code's trail leave: it is good, falls, and has no decision that was none before.
-use Rattle.std.proofs.Common.{◌≡◌, ℕ, ◌+◌, ◌/◌, ◌%◌, ◌<◌, ◌≤◌, true, List, [], ◌∷◌, ◌++◌, length, get_or, set, sym, refl, ap, ◌∙◌, subst, arith}
-use Rattle.std.proofs.lemmas.List.{get_or-set_same}
+use Rattle.std.proofs.Common.{◌≡◌, ℕ, ◌+◌, ◌/◌, ◌%◌, ◌<◌, ◌≤◌, true, List, [], ◌∷◌, ◌++◌, length, get_or, set, sym, refl, ap, ◌∙◌, subst, ⊎_elim, arith}
+use Rattle.std.proofs.lemmas.List.{get_or-set_same, get_or-set_other}
+use Rattle.std.proofs.lemmas.Bool.{cases_eq, cases_lt}
 use Rattle.std.proofs.Math.ListN.{get_or-append, length-append}
 use Rattle.std.proofs.Common.{append_assoc, append-nil}
 use Rattle.std.specs.Prelude.{Ok, Err, Result}
 use Rattle.clauses.specs.declared.store.Unfit.{Unfit}
 use Rattle.clauses.specs.declared.store.Unfit.TheVariants.{Literal, Room}
-use Rattle.clauses.specs.Stores.{AddedIf}
+use Rattle.clauses.specs.Stores.{AddedIf, Follows, clause_at}
 use Rattle.clauses.specs.Formulas.{Assignment, value, negation, Satisfies, Models}
 use Rattle.clauses.proofs.Literals.{negation_half}
 use Rattle.trail.specs.Views.{TrailView, formula_of, variables_of}
-use Rattle.trail.specs.Trails.{Decided, Stuck, Held, Good, Jammed, Later, Falls, SameClauses, NoneModels, Put, Popped, number}
+use Rattle.trail.specs.Trails.{Decided, Stuck, Held, Good, Jammed, Later, Falls, SameClauses, Rooted, RootAfter, NoneModels, Put, Popped, number}
 use Rattle.trail.proofs.Holding.{room_for_one, held_more, held_less, stuck_less, turned_round}
 use Rattle.trail.proofs.Numbers.{falls_by_one_more, falls_at_decision}
 use Rattle.trail.proofs.Assuming.{later_back, later_put}
@@ -137,3 +138,42 @@ pub good_either : (s t : TrailView) (c : List ℕ) (r : Result (Unit {0}) Unfit)
 good_either s t c (Ok _) good added problem = good_added s t (c ∷ []) good problem added.formula added.memory.variables
 good_either s t c (Err Literal) good added problem = good_kept s t good problem added.1
 good_either s t c (Err Room) good added problem = good_kept s t good problem added.1
+
+-- a clause of the first follows from all
+pub own_first : (f g : List (List ℕ)) (k : ℕ) → k < length f → Follows (f ++ g) (clause_at f k)
+own_first f g k h α m = models_first f g α m k h
+
+-- a model of what there is after a clause was added, or refused, is one of what there was
+pub models_added : (s t : TrailView) (c : List ℕ) (r : Result (Unit {0}) Unfit) → AddedIf c s.units t.units r → t.problem ≡ s.problem → (α : Assignment) → Models (formula_of t) α → Models (formula_of s) α
+models_added s t c (Ok _) added problem α m =
+    models_first (formula_of s) (c ∷ []) α
+    (subst (λ (f : List (List ℕ)). Models f α) (ap (λ p. p.formula ++ t.units.formula) problem ∙ ap (λ u. s.problem.formula ++ u) added.formula ∙ sym (append_assoc s.problem.formula s.units.formula (c ∷ []))) m)
+models_added s t c (Err Literal) added problem α m = subst (λ (f : List (List ℕ)). Models f α) (same_formula s t (record { problem = problem; units = added.1 })) m
+models_added s t c (Err Room) added problem α m = subst (λ (f : List (List ℕ)). Models f α) (same_formula s t (record { problem = problem; units = added.1 })) m
+
+-- the root, when a literal comes and when one goes
+module _ (marks : List ℕ) (root n : ℕ) (rooted : Rooted marks root) (low : root ≤ n) (decided : root < n → get_or marks root 0 ≡ 1) where
+  module _ (mark root' : ℕ) (inside : n < length marks) (after : RootAfter root n mark root') where
+    pub low_put : root' ≤ n + 1
+    low_put = ⊎_elim (λ h. omega (arith, after.before h)) (λ h. let e : root ≡ n = omega arith in ⊎_elim (λ d. omega (arith, after.decided e d)) (λ d. omega (arith, after.implied e d)) (cases_eq mark 1)) (cases_lt root n)
+
+    pub rooted_put : Rooted (set marks n mark) root'
+    rooted_put q h one =
+        ⊎_elim
+        (λ i. ⊎_elim
+        (λ b. let e = after.before b in omega arith)
+        (λ b. let e : root ≡ n = omega arith in ⊎_elim (λ d. let s = after.decided e d in omega arith) (λ d. d (sym (get_or-set_same marks n mark 0 inside) ∙ ap (λ (y : ℕ). get_or (set marks n mark) y 0) (sym i) ∙ one)) (cases_eq mark 1))
+        (cases_lt root n))
+        (λ ne. rooted q (let l = low_put in ⊎_elim (λ b. let e = after.before b in omega arith) (λ b. let e : root ≡ n = omega arith in omega arith) (cases_lt root n)) (sym (get_or-set_other marks n q mark 0 ne) ∙ one))
+        (cases_eq q n)
+
+    pub decided_put : root' < n + 1 → get_or (set marks n mark) root' 0 ≡ 1
+    decided_put h =
+        ⊎_elim
+        (λ b. let e = after.before b in ap (λ (y : ℕ). get_or (set marks n mark) y 0) e ∙ get_or-set_other marks n root mark 0 (omega arith) ∙ decided b)
+        (λ b. let e : root ≡ n = omega arith in ⊎_elim (λ d. ap (λ (y : ℕ). get_or (set marks n mark) y 0) (after.decided e d ∙ e) ∙ get_or-set_same marks n mark 0 inside ∙ d) (λ d. let s = after.implied e d in absurd (omega arith)) (cases_eq mark 1))
+        (cases_lt root n)
+
+-- there is a place for a literal of a variable that has no value
+pub room_here : (s : TrailView) (l : ℕ) → Good s → l / 2 < variables_of s → get_or s.values (l / 2) 0 ≡ 0 → s.len < variables_of s
+room_here s l good known free = room_for_one _ _ _ _ _ _ _ _ _ _ 0 good.held free known refl refl refl

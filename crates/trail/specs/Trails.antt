@@ -103,6 +103,12 @@ NoneModels f = (α : Assignment) → Models f α → ⊥
 abbrev pub Rooted : List ℕ → ℕ → Type 0
 Rooted marks root = (q : ℕ) → q < root → slice_index marks q ≢ 1
 
+-- the root when a literal comes behind n others: it moves on only if it was the end and this is no decision
+pub record RootAfter (root n mark root' : ℕ) : Type 0 where
+  pub before : root < n → root' ≡ root
+  pub decided : root ≡ n → mark ≡ 1 → root' ≡ root
+  pub implied : root ≡ n → mark ≢ 1 → root' ≡ n + 1
+
 -- one literal more stands on the trail, with a mark
 pub record Put (s : TrailView) (l mark : ℕ) (t : TrailView) : Type 0 where
   pub clauses : SameClauses s t

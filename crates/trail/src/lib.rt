@@ -6,7 +6,7 @@ ghost use Rattle.std.specs.Prelude.{◌≡◌, ℕ, ◌+◌, ◌-◌, ◌/◌, �
 ghost use Rattle.clauses.specs.Formulas.{Assignment, value, negation, Models};
 ghost use Rattle.clauses.specs.Stores.{Known, AddedIf};
 ghost use Rattle.trail.specs.Views.{formula_of, variables_of};
-ghost use Rattle.trail.specs.Trails.{Decided, Good, Jammed, Later, Falls, SameClauses, Forced, NoneModels, Rooted, Put, Popped};
+ghost use Rattle.trail.specs.Trails.{Decided, Good, Jammed, Later, Falls, SameClauses, Forced, NoneModels, Rooted, RootAfter, Put, Popped};
 
 use clauses::{Clauses, Store, Unfit, negated};
 use std::marker::Model;
@@ -27,6 +27,8 @@ pub struct Trail<'a> {
     literals: &'a mut [u32],
     marks: &'a mut [u32],
     len: usize,
+    // The place of the first decision, or the length.
+    root: usize,
 }
 
 impl<'a> Model for Trail<'a> {
@@ -39,6 +41,18 @@ impl<'a> Model for Trail<'a> {
     ghost view = { trail_view };
 
     ghost invariant = { IsGood };
+}
+
+// The place of the first decision when a literal comes with a mark; before, it was root.
+fn root_after(root: usize, len: usize, mark: u32) -> usize
+    requires { len < 2147483647 }
+    ensures { RootAfter root len mark result }
+{
+    if root == len && mark != DECIDED {
+        root + 1
+    } else {
+        root
+    }
 }
 
 // There is no model of the clauses.
@@ -71,6 +85,7 @@ impl<'a> Trail<'a> {
             literals,
             marks,
             len: 0,
+            root: 0,
         }
     }
 }
@@ -148,11 +163,7 @@ impl Trail<'_> {
         ensures low { result ≤ self.now.len }
         ensures decided { result < self.now.len → slice_index self.now.marks result ≡ 1 }
     {
-        let marks = &self.marks[..self.len];
-        marks
-            .iter()
-            .position(|mark| *mark == DECIDED)
-            .unwrap_or(self.len)
+        self.root
     }
 
     // Whether a literal is true, or false.
@@ -183,6 +194,7 @@ impl Trail<'_> {
         self.values[(literal / 2) as usize] = 1 + literal % 2;
         self.literals[self.len] = literal;
         self.marks[self.len] = mark;
+        self.root = root_after(self.root, self.len, mark);
         self.len += 1;
     }
 
@@ -194,6 +206,7 @@ impl Trail<'_> {
         ensures free { slice_index self.new.values (result / 2) ≡ 0 }
     {
         self.len -= 1;
+        self.root = self.root.min(self.len);
         let literal = self.literals[self.len];
         self.values[(literal / 2) as usize] = 0;
         literal

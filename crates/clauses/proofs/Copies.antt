@@ -9,7 +9,7 @@ use Rattle.std.proofs.Math.ListN.{get_or-append}
 use Rattle.std.proofs.Math.Seq.{paste}
 use Rattle.std.proofs.lemmas.List.{length-take-le, get_or-append_right, ext_get_or, length-take, length-drop, length-set, get_or-take, get_or-drop, get_or-set_same, get_or-set_other}
 use Rattle.std.proofs.lemmas.Bool.{cases_lt}
-use Rattle.clauses.specs.Stores.{from, to, clause, formula, Stored}
+use Rattle.clauses.specs.Stores.{from, to, clause, formula, Stored, InOrder}
 
 -- the first so many literals of a clause have been copied to a place
 pub record Copied (c : List ℕ) (begin : ℕ) (w w' : List ℕ) (place : ℕ) : Type 0 where
@@ -76,6 +76,13 @@ module _ (spans : List ℕ) (count begin end : ℕ) (room : 2 * (count + 1) ≤ 
   pub to_new : to spanned count ≡ end
   unfolding to
   to_new = let l = length-set spans (2 * count) begin in get_or-set_same (set spans (2 * count) begin) (2 * count + 1) end 0 (omega arith)
+
+  pub order_more : InOrder spans count → ((k : ℕ) → k < count → to spans k ≤ begin) → InOrder spanned (count + 1)
+  order_more o h j k jk l =
+      below_more (λ i. j < i → to spanned j ≤ from spanned i) count
+      (λ i b ji. let t = to_old j (omega arith) in let f = from_old i b in let x = o j i ji b in omega arith)
+      (λ ji. let t = to_old j ji in let f = from_new in let x = h j ji in omega arith)
+      k l jk
 
 pub same_formula : (spans words spans' words' : List ℕ) (n : ℕ) → ((k : ℕ) → k < n → clause spans' words' k ≡ clause spans words k) → formula spans' words' n ≡ formula spans words n
 unfolding formula

@@ -2,3 +2,7 @@
 pub mod Copies
 -- literals and models
 pub mod Literals
+-- answers of a closure that is asked in turn
+pub mod Answering
+-- clauses that are kept
+pub mod Retaining

@@ -3,3 +3,4 @@ pub mod Formulas
 pub mod Views
 pub mod Stores
 pub mod Keeping
+pub mod Retaining

@@ -28,6 +28,10 @@ pub record Stored (v : ℕ) (spans words : List ℕ) (count used : ℕ) : Type 0
   pub inside : (k : ℕ) → k < count → to spans k ≤ used
   pub known : (p : ℕ) → p < used → slice_index words p / 2 < v
 
+-- each of so many spans ends before the later ones begin
+abbrev pub InOrder : List ℕ → ℕ → Type 0
+InOrder spans count = (j k : ℕ) → j < k → k < count → to spans j ≤ from spans k
+
 -- spans of which each ends not before it begins, and not behind n words
 abbrev pub AreSpans : List ℕ → ℕ → Type 0
 AreSpans spans n = (k : ℕ) → k < length spans / 2 → (from spans k ≤ to spans k) × (to spans k ≤ n)

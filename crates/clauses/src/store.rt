@@ -1,6 +1,7 @@
 // Clauses that are added one by one, in memory that is lent.
-ghost use Rattle.std.specs.Prelude.{◌≡◌, ◌*◌, ◌<◌, ◌≤◌, [], length};
-ghost use Rattle.clauses.specs.Stores.{clause_at, Known, AddedIf};
+ghost use Rattle.std.specs.Prelude.{◌≡◌, ◌*◌, ◌<◌, ◌≤◌, [], length, sum_by};
+ghost use Rattle.clauses.specs.Stores.{clause_at, Known, AddedIf, SameMemory};
+ghost use Rattle.clauses.specs.Retaining.{SomeOf, Retains};
 
 use super::list::{Clauses, all_known};
 use std::marker::Model;
@@ -103,5 +104,39 @@ impl Store<'_> {
         self.count += 1;
         self.used = end;
         Ok(())
+    }
+
+    // Keeps the clauses that are wanted, in their order, and moves them together. Each is asked about once,
+    // in order, with its number.
+    pub fn retain<F: FnMut(usize, &[u32]) -> bool>(&mut self, mut wants: F)
+        requires { F.IsAlwaysCallable wants }
+        ensures wanted { Retains F.FnMut wants self.old.formula self.new.formula }
+        ensures some { SomeOf self.old.formula self.new.formula }
+        ensures fewer { length self.new.formula ≤ length self.old.formula }
+        ensures memory { SameMemory self.old self.new }
+        ensures together { self.new.used ≡ sum_by length self.new.formula }
+        ensures used { self.new.used ≤ self.old.used }
+    {
+        let spans = &mut *self.spans;
+        let words = &mut *self.words;
+        let mut kept = 0;
+        let mut written = 0;
+        for number in 0..self.count {
+            let from = spans[2 * number] as usize;
+            let to = spans[2 * number + 1] as usize;
+            prove!(written <= from);
+            prove!(from <= to);
+            prove!(to <= words.len());
+            if wants(number, &words[from..to]) {
+                let end = written + (to - from);
+                words.copy_within(from..to, written);
+                spans[2 * kept] = written as u32;
+                spans[2 * kept + 1] = end as u32;
+                kept += 1;
+                written = end;
+            }
+        }
+        self.count = kept;
+        self.used = written;
     }
 }

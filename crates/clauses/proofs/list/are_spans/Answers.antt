@@ -1,4 +1,4 @@
-use Rattle.std.proofs.Common.{rules, ℕ, ◌*◌, ◌<◌, ◌≤◌, arith, below_more}
+use Rattle.std.proofs.Common.{rules, arith, below_more}
 use Rattle.clauses.specs.Stores.{from, to}
 use Rattle.clauses.proofs.list.are_spans.Goals.{then-from-to-via-then-from-to, then-from-to-via-else-from-to+then-to-words}
 use Rattle.clauses.proofs.list.are_spans.Goals as goal

@@ -1,4 +1,4 @@
-use Rattle.std.proofs.Common.{ℕ, ◌<◌, List, length, sym, subst, arith}
+use Rattle.std.proofs.Common.{◌<◌, length, sym, subst, arith}
 use Rattle.clauses.specs.Stores.{from, to, clause, formula}
 use Rattle.clauses.proofs.Literals.{formula_long, formula_at}
 use Rattle.clauses.proofs.list.Clauses.clause.Goals as goal

@@ -3,7 +3,8 @@
 ghost use Rattle.std.specs.Prelude.{◌≡◌, ℕ, ◌+◌, ◌/◌, ◌%◌, ◌<◌, ◌≤◌, ◌∷◌, [], true, length, IfSome, OnOk, OnErr, slice_index, slice_set};
 ghost use Rattle.std.specs.Option.{ForSome};
 ghost use Rattle.clauses.specs.Formulas.{negation};
-ghost use Rattle.clauses.specs.Stores.{Known, Follows, Sound, AddedIf};
+ghost use Rattle.clauses.specs.Stores.{Known, Follows, AddedIf, SameMemory};
+ghost use Rattle.clauses.specs.Retaining.{SomeOf};
 ghost use Rattle.trail.specs.Views.{variables_of as variables_on};
 ghost use Rattle.trail.specs.Trails.{IsTrueUnder, Jammed, Later, Falls, SameClauses, Forced, NoneModels};
 ghost use Rattle.propagation.specs.Settling.{level_below, SettledSays};
@@ -258,17 +259,25 @@ impl<'a> Search<'a> {
         self.learned.add(clause)
     }
 
-    // Has a clause watched by two of its literals, or none any more.
+    // Keeps the learned clauses that are wanted, in their order. Each is asked about once, with its number
+    // among them. Nothing is watched any more, since the numbers change.
+    pub fn retain<F: FnMut(usize, &[u32]) -> bool>(&mut self, wants: F)
+        requires { F.IsAlwaysCallable wants }
+        ensures some { SomeOf self.old.learned.formula self.new.learned.formula }
+        ensures fewer { length self.new.learned.formula ≤ length self.old.learned.formula }
+        ensures memory { SameMemory self.old.learned self.new.learned }
+        ensures trail { self.new.trail ≡ self.old.trail }
+        ensures causes { self.new.causes ≡ self.old.causes }
+    {
+        self.learned.retain(wants);
+        self.watches.detach_all();
+    }
+
+    // Has a clause watched by two of its literals.
     pub fn attach(&mut self, number: u32, one: u32, other: u32)
         ensures { self.new ≡ self.old }
     {
         self.watches.attach(number, one, other);
-    }
-
-    pub fn detach_all(&mut self)
-        ensures { self.new ≡ self.old }
-    {
-        self.watches.detach_all();
     }
 
     // Looks at a clause, by its number; nothing where the other watched literal is true, or there is no

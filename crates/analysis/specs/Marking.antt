@@ -2,7 +2,8 @@
 use Rattle.std.specs.Prelude.{◌≡◌, ℕ, ◌+◌, ◌*◌, ◌/◌, ◌<◌, ◌≤◌, true, cond, ◌⊎◌, List, length, ◌==◌, ◌≢◌, slice_index, slice_index_or}
 use Rattle.clauses.specs.Formulas.{Assignment, value, Models}
 use Rattle.trail.specs.Trails.{IsFalseUnder, OnTrail}
-use Rattle.analysis.specs.declared.Analysis.{Analysis}
+use Rattle.analysis.specs.Views.{AnalysisView}
+use Rattle.propagation.specs.Views.{SearchView, variables_of, formula_of}
 
 -- marks for v variables: each marked one is listed, and what is listed is a variable
 pub record Noted (v : ℕ) (seen touched : List ℕ) (count : ℕ) : Type 0 where
@@ -12,8 +13,9 @@ pub record Noted (v : ℕ) (seen touched : List ℕ) (count : ℕ) : Type 0 wher
   pub listed : (x : ℕ) → slice_index seen x ≡ 1 → OnTrail touched count x
   pub known : (i : ℕ) → i < count → slice_index touched i < v
 
-abbrev pub NotedA : ℕ → Analysis → Type 0
-NotedA v a = Noted v a.seen.now a.touched.now a.count
+-- an analysis for as many variables as a search has
+abbrev pub Fits : AnalysisView → SearchView → Type 0
+Fits a s = length a.seen ≡ variables_of s
 
 -- the literal of a variable that is false
 abbrev pub literal_of : List ℕ → ℕ → ℕ
@@ -43,9 +45,9 @@ pub record Taken (f : List (List ℕ)) (values seen : List ℕ) (except l : ℕ)
   pub other : l / 2 ≡ except / 2 → ⊥
   pub marked : (slice_index seen (l / 2) ≡ 1) ⊎ Never f l
 
--- so are all literals between two places but one
-abbrev pub AllTaken : List (List ℕ) → List ℕ → List ℕ → List ℕ → ℕ → ℕ → ℕ → Type 0
-AllTaken f values seen words i e except = (p : ℕ) → i ≤ p → p < e → (slice_index words p ≢ except) → Taken f values seen except (slice_index words p)
+-- so are all literals of a clause but one
+abbrev pub AllTaken : List (List ℕ) → List ℕ → List ℕ → List ℕ → ℕ → Type 0
+AllTaken f values seen clause except = (p : ℕ) → p < length clause → slice_index clause p ≢ except → Taken f values seen except (slice_index clause p)
 
 -- every model makes a literal of some variable true, or differs from the values at another marked variable
 pub record Elsewhere (values seen : List ℕ) (except : ℕ) (α : Assignment) : Type 0 where
@@ -55,6 +57,6 @@ pub record Elsewhere (values seen : List ℕ) (except : ℕ) (α : Assignment) :
 abbrev pub Absorbed : List (List ℕ) → ℕ → List ℕ → List ℕ → ℕ → Type 0
 Absorbed f v values seen except = (α : Assignment) → Models f α → ((except / 2 < v) × (value α except ≡ true)) ⊎ Elsewhere values seen except α
 
--- no decision stands before the root
-abbrev pub Rooted : List ℕ → ℕ → Type 0
-Rooted marks root = (q : ℕ) → q < root → slice_index marks q ≢ 1
+-- the same of what the code sees
+abbrev pub ApartA : SearchView → AnalysisView → Type 0
+ApartA s a = Apart (formula_of s) s.trail.values a.seen

@@ -126,6 +126,15 @@ impl<'a> Search<'a> {
         self.learned.len()
     }
 
+    // The literals of a learned clause, by its number among them.
+    pub fn learned_clause(&self, number: usize) -> Option<&[u32]> {
+        if number < self.learned.len() {
+            Some(self.learned.clause(number))
+        } else {
+            None
+        }
+    }
+
     // The literals of a clause, by its number.
     pub fn clause(&self, number: usize) -> Option<&[u32]>
         ensures clause { IfSome result (λ c. Numbered self.now number c.now) }

@@ -1,2 +1,3 @@
--- What is noted of the literal that stands last on a trail.
-pub mod Settling
+pub mod Views
+pub mod Learning
+pub mod Keeping

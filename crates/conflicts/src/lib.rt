@@ -3,22 +3,25 @@
 // refuses all decisions serves: it turns the last decision round.
 #![tactic(auto)]
 
-ghost use Rattle.std.specs.Prelude.{◌≡◌, ℕ, ◌/◌, ◌<◌, ◌≤◌, true, false, length, IfSome, slice_index};
-ghost use Rattle.clauses.specs.Formulas.{Assignment, Models};
-ghost use Rattle.clauses.specs.Stores.{formula_of, StoredS, SoundS};
-ghost use Rattle.trail.specs.Trails.{Good, Jammed, Later, rank};
-ghost use Rattle.propagation.specs.Looking.{Caused};
-ghost use Rattle.analysis.specs.Marking.{NotedA, Rooted};
-ghost use Rattle.order.specs.Orders.{Ordered};
-ghost use Rattle.learning.specs.Turning.{Known, Follows, Fallen, ClauseFollows};
-ghost use Rattle.conflicts.specs.Settling.{level_below, SettledSays};
+ghost use Rattle.std.specs.Prelude.{◌≡◌, ℕ, ◌/◌, ◌<◌, ◌≤◌, length, IfSome, OnOk, OnErr};
+ghost use Rattle.std.specs.Option.{ForSome};
+ghost use Rattle.clauses.specs.Stores.{Known, Follows};
+ghost use Rattle.trail.specs.Views.{variables_of as variables_on};
+ghost use Rattle.trail.specs.Trails.{Jammed, Later, Falls, NoneModels, Rooted};
+ghost use Rattle.propagation.specs.Views.{variables_of, formula_of};
+ghost use Rattle.propagation.specs.Searching.{Same};
+ghost use Rattle.analysis.specs.Views.{clause_of};
+ghost use Rattle.analysis.specs.Marking.{Fits};
+ghost use Rattle.learning.specs.Turning.{Taught};
+ghost use Rattle.conflicts.specs.Learning.{Turned};
 
 use analysis::Analysis;
-use clauses::{Store, negated};
-use learning::{Turn, decision_above, go_back, keep, refuse_decisions};
+use clauses::negated;
+use learning::{Turn, Uses, decision_above, go_back};
 use order::Order;
-use propagation::{Causes, Watches};
-use trail::Trail;
+use propagation::Search;
+use std::marker::Model;
+use trail::{NoModel, Trail};
 
 // How often what was done: conflicts, decisions, fresh starts and times that clauses were forgotten;
 // and how often analysis found no clause, or memory had no room for one.
@@ -32,56 +35,42 @@ pub struct Counters {
     pub unkept: u64,
 }
 
-// When each learned clause last took part, by a clock of conflicts.
+// A search that learns, with what steers it: when clauses took part, which variables are active, and
+// the values that they had, which are tried first (1 true, 0 false). The first so many variables are
+// decided first.
 #[derive(Drop)]
-pub struct Uses<'a> {
-    pub last: &'a mut [u32],
-    pub clock: u32,
+pub struct Learner<'a> {
+    pub search: Search<'a>,
+    pub analysis: Analysis<'a>,
+    pub uses: Uses<'a>,
+    pub order: Order<'a>,
+    pub phases: &'a mut [u32],
+    pub decided: usize,
+    pub counters: Counters,
 }
 
-impl Uses<'_> {
-    // Notes that a clause takes part, given by its number plus one: 0 is none, and those up to the base
-    // are the problem's.
-    fn note(&mut self, reason: u32, base: usize) {
-        let number = reason as usize;
-        if number > base {
-            let clause = number - base - 1;
-            if clause < self.last.len() {
-                self.last[clause] = self.clock;
-            }
-        }
-    }
+impl<'a> Model for Learner<'a> {
+    ghost use Rattle.conflicts.specs.Views.{LearnerView};
+
+    ghost Value = { LearnerView };
+
+    ghost use Rattle.conflicts.specs.Keeping.{learner_view, IsLearner};
+
+    ghost view = { learner_view };
+
+    ghost invariant = { IsLearner };
 }
 
-// The place of the first decision, or the trail's length.
-pub fn first_decision(trail: &Trail) -> usize
-    requires { trail.now.len ≤ length trail.now.marks.now }
-    ensures rooted { Rooted trail.now.marks.now result }
-    ensures low { result ≤ trail.now.len }
-    ensures decided { result < trail.now.len → slice_index trail.now.marks.now result ≡ 1 }
+// Gives the variables from a place of the trail on back to the order, and notes their values.
+fn release(trail: &Trail, order: &mut Order, phases: &mut [u32], decided: usize, from: usize)
+    requires order { order.old.variables ≡ variables_on trail.now }
+    requires phases { length phases.old ≡ variables_on trail.now }
+    ensures { order.new.variables ≡ order.old.variables }
 {
-    for place in 0..trail.len {
-        if trail.marks[place] == 1 {
-            return place;
-        }
-    }
-    trail.len
-}
-
-// Gives the variables from a place of the trail on back to the order, and notes their values, which
-// are tried first the next time: 1 true, 0 false.
-pub fn release(trail: &Trail, order: &mut Order, phases: &mut [u32], decided: usize, from: usize)
-    requires long { trail.now.len ≤ length trail.now.literals.now }
-    requires ordered { Ordered (length order.old.scores.now) order.old }
-    ensures ordered { Ordered (length order.new.scores.now) order.new }
-{
-    for place in from..trail.len {
-        let literal = trail.literals[place];
-        let variable = (literal / 2) as usize;
-        if variable < phases.len() {
-            phases[variable] = 1 - literal % 2;
-        }
-        if variable < decided && variable < order.scores.len() {
+    for place in from..trail.len() {
+        let literal = trail.literal(place);
+        phases[(literal / 2) as usize] = 1 - literal % 2;
+        if ((literal / 2) as usize) < decided {
             order.insert(literal / 2);
         }
     }
@@ -89,357 +78,168 @@ pub fn release(trail: &Trail, order: &mut Order, phases: &mut [u32], decided: us
 
 // Makes the variables that a conflict met more active.
 fn bump_met(analysis: &Analysis, order: &mut Order)
-    requires room { analysis.now.count ≤ length analysis.now.touched.now }
-    requires ordered { Ordered (length order.old.scores.now) order.old }
-    ensures ordered { Ordered (length order.new.scores.now) order.new }
+    requires { length analysis.now.seen ≡ order.old.variables }
+    ensures { order.new.variables ≡ order.old.variables }
 {
-    for index in 0..analysis.count {
-        let variable = analysis.touched[index];
-        if (variable as usize) < order.scores.len() {
-            order.bump(variable);
-        }
+    for variable in analysis.met() {
+        order.bump(*variable);
     }
     order.decay();
 }
 
 // Notes that the clause of a conflict takes part, and those that implied what the conflict met.
-fn note_uses(analysis: &Analysis, causes: &Causes, uses: &mut Uses, base: usize, conflict: u32)
-    requires { analysis.now.count ≤ length analysis.now.touched.now }
+fn note_uses(search: &Search, analysis: &Analysis, uses: &mut Uses, conflict: u32)
+    requires { Fits analysis.now search.now }
 {
-    uses.clock = uses.clock.saturating_add(1);
-    uses.note(conflict.saturating_add(1), base);
-    for index in 0..analysis.count {
-        let variable = analysis.touched[index] as usize;
-        if variable < causes.reasons.len() {
-            uses.note(causes.reasons[variable], base);
+    let base = search.trail().problem().len();
+    uses.tick();
+    uses.note(conflict, base);
+    for variable in analysis.met() {
+        if let Some(reason) = search.causes().reason(*variable) {
+            uses.note(reason, base);
         }
     }
 }
 
 // The literal of a clause that stands highest on the trail, but for one; or that one.
-fn highest(variables: usize, causes: &Causes, clause: &[u32], literal: u32) -> u32
-    requires causes { Caused variables causes.now }
-    requires known { Known variables clause.now }
+fn highest(search: &Search, clause: &[u32], literal: u32) -> u32
+    requires { Known (variables_of search.now) clause.now }
 {
     let mut found = literal;
     let mut place = 0;
-    for index in 0..clause.len() {
-        let other = clause[index];
-        let standing = causes.places[(other / 2) as usize];
-        if other != literal && (found == literal || standing > place) {
-            found = other;
+    for other in clause {
+        let standing = search.causes().place(*other / 2);
+        if *other != literal && (found == literal || standing > place) {
+            found = *other;
             place = standing;
         }
     }
     found
 }
 
-// Keeps a clause that follows and has it watched. Its number plus one, or 0 where there is no room.
-fn watch_kept(
-    variables: usize,
-    watches: &mut Watches,
-    problem: &Store,
-    learned: &mut Store,
-    base: usize,
-    clause: &[u32],
-    one: u32,
-    other: u32,
-) -> u32
-    requires learned { SoundS (formula_of problem.now) variables learned.old }
-    requires follows { Follows (formula_of problem.now) clause.now }
-    ensures learned { SoundS (formula_of problem.now) variables learned.new }
+// Keeps a clause that follows and has it watched. Its number, or None where there is no room.
+fn watch_kept(search: &mut Search, clause: &[u32], one: u32, other: u32) -> Option<u32>
+    requires { Follows (formula_of search.old) clause.now }
+    ensures trail { search.new.trail ≡ search.old.trail }
+    ensures small { ForSome result (λ number. number < 4294967295) }
 {
-    let count = learned.count;
+    let base = search.trail().problem().len();
+    let count = search.learned();
     if base >= 0x4000_0000 || count >= 0x3fff_ffff {
-        return 0;
+        return None;
     }
-    if !keep(learned, variables, problem, clause) {
-        return 0;
-    }
+    search.keep(clause).ok()?;
     let number = (base + count) as u32;
-    watches.attach(number, one, other);
-    number + 1
+    search.attach(number, one, other);
+    Some(number)
 }
 
-// The level of the literal before the last one.
-pub fn level_before(trail: &Trail, variables: usize, causes: &Causes, problem: &Store) -> u32
-    requires good { Good (formula_of problem.now) variables trail.now }
-    requires causes { Caused variables causes.now }
-    ensures { result ≡ level_below trail.now causes.now }
+// Turns the last decision round, and learns nothing.
+pub fn flip_last(search: &mut Search) -> Result<(), NoModel>
+    requires { Jammed search.old.trail }
+    ensures same { Same search.old search.new }
+    ensures later { Later search.old.trail search.new.trail }
+    ensures less { OnOk result (Falls search.old.trail search.new.trail) }
+    ensures none { OnErr result (NoneModels (formula_of search.old)) }
 {
-    if trail.len < 2 {
-        return 0;
-    }
-    causes.levels[(trail.literals[trail.len - 2] / 2) as usize]
+    search.flip()?;
+    search.settle(None);
+    Ok(())
 }
 
-// Notes why the last literal of the trail stands there. Its level.
-pub fn settle(
-    trail: &Trail,
-    variables: usize,
-    causes: &mut Causes,
-    problem: &Store,
-    reason: u32,
-) -> u32
-    requires good { Good (formula_of problem.now) variables trail.now }
-    requires causes { Caused variables causes.old }
-    requires few { variables < 2147483647 }
-    ensures causes { Caused variables causes.new }
-    ensures level { result ≡ level_below trail.now causes.old }
-    ensures noted { SettledSays trail.now causes.old causes.new reason result }
-{
-    let level = level_before(trail, variables, causes, problem);
-    if trail.len > 0 {
-        let last = trail.len - 1;
-        causes.note(
-            (trail.literals[last] / 2) as usize,
-            reason,
-            level,
-            last as u32,
+impl Learner<'_> {
+    // Goes back by the clause of the analysis, which follows, and keeps it.
+    fn go_on(&mut self, place: usize) -> Result<(), NoModel>
+        requires jammed { Jammed self.old.search.trail }
+        requires taught { Taught self.old.search (clause_of self.old.analysis) }
+        requires place { place < self.old.search.trail.len }
+        ensures turned { Turned self.old.search self.new.search }
+        ensures less { OnOk result (Falls self.old.search.trail self.new.search.trail) }
+        ensures none { OnErr result (NoneModels (formula_of self.old.search)) }
+    {
+        let literal = negated(self.search.trail().literal(place));
+        let clause = self.analysis.clause();
+        let other = highest(&self.search, clause, literal);
+        let decision = decision_above(&self.search, clause, literal);
+        release(
+            self.search.trail(),
+            &mut self.order,
+            self.phases,
+            self.decided,
+            decision,
         );
-    }
-    level
-}
-
-// Goes back by a clause that follows, and keeps it; false where there is no model.
-fn go_on(
-    trail: &mut Trail,
-    variables: usize,
-    causes: &mut Causes,
-    watches: &mut Watches,
-    order: &mut Order,
-    phases: &mut [u32],
-    problem: &Store,
-    learned: &mut Store,
-    base: usize,
-    decided: usize,
-    clause: &[u32],
-    place: usize,
-    counters: &mut Counters,
-) -> bool
-    requires good { Good (formula_of problem.now) variables trail.old }
-    requires jammed { Jammed (formula_of problem.now) trail.old }
-    requires learned { SoundS (formula_of problem.now) variables learned.old }
-    requires causes { Caused variables causes.old }
-    requires ordered { Ordered (length order.old.scores.now) order.old }
-    requires known { Known variables clause.now }
-    requires follows { Follows (formula_of problem.now) clause.now }
-    requires place { place < trail.old.len }
-    requires few { variables < 2147483647 }
-    ensures good { Good (formula_of problem.now) variables trail.new }
-    ensures later { Later trail.old trail.new }
-    ensures less { result ≡ true → (budget : ℕ) → rank variables budget trail.new < rank variables budget trail.old }
-    ensures none { result ≡ false → (α : Assignment) → Models (formula_of problem.now) α → ⊥ }
-    ensures learned { SoundS (formula_of problem.now) variables learned.new }
-    ensures causes { Caused variables causes.new }
-    ensures ordered { Ordered (length order.new.scores.now) order.new }
-{
-    let literal = negated(trail.literals[place]);
-    let other = highest(variables, causes, clause, literal);
-    let decision = decision_above(trail, variables, causes, problem, clause, literal);
-    release(trail, order, phases, decided, decision);
-    match go_back(trail, variables, causes, problem, clause, decision, place) {
-        Turn::End => false,
-        Turn::Flip => {
-            settle(trail, variables, causes, problem, 0);
-            true
-        }
-        Turn::Jump => {
-            let reason = watch_kept(
-                variables, watches, problem, learned, base, clause, literal, other,
-            );
-            if reason == 0 {
-                counters.unkept = counters.unkept.saturating_add(1);
+        match go_back(&mut self.search, clause, decision, place)? {
+            Turn::Flip => {
+                self.search.settle(None);
             }
-            settle(trail, variables, causes, problem, reason);
-            true
+            Turn::Jump => {
+                let reason = watch_kept(&mut self.search, clause, literal, other);
+                let lost = reason.is_none();
+                self.counters.unkept = self.counters.unkept.saturating_add(lost as u64);
+                self.search.settle(reason);
+            }
+        }
+        Ok(())
+    }
+
+    // Turns the last decision round, by the clause that refuses all of them.
+    pub fn turn_round(&mut self) -> Result<(), NoModel>
+        requires { Jammed self.old.search.trail }
+        ensures turned { Turned self.old.search self.new.search }
+        ensures less { OnOk result (Falls self.old.search.trail self.new.search.trail) }
+        ensures none { OnErr result (NoneModels (formula_of self.old.search)) }
+    {
+        let Some(last) = self.analysis.refuse(&self.search) else {
+            return flip_last(&mut self.search);
+        };
+        self.counters.refusals = self.counters.refusals.saturating_add(1);
+        self.go_on(last)
+    }
+
+    // Derives the clause that a conflict teaches. The place on the trail of the literal that it turns
+    // round, or None where a step was not seen to be right.
+    fn derive(&mut self, level: u32, conflict: u32) -> Option<usize>
+        ensures search { self.new.search ≡ self.old.search }
+        ensures clause { IfSome result (λ place. Taught self.new.search (clause_of self.new.analysis) × (place < self.new.search.trail.len)) }
+    {
+        self.analysis.clear();
+        let place = self.analysis.analyze(&self.search, level, conflict)?;
+        bump_met(&self.analysis, &mut self.order);
+        note_uses(&self.search, &self.analysis, &mut self.uses, conflict);
+        self.analysis.minimize(&self.search)?;
+        self.analysis.collect(&self.search)?;
+        Some(place)
+    }
+
+    // Learns from a clause that is false, given by its number.
+    pub fn learn(&mut self, level: u32, conflict: u32) -> Result<(), NoModel>
+        requires { Jammed self.old.search.trail }
+        ensures turned { Turned self.old.search self.new.search }
+        ensures less { OnOk result (Falls self.old.search.trail self.new.search.trail) }
+        ensures none { OnErr result (NoneModels (formula_of self.old.search)) }
+    {
+        self.counters.conflicts = self.counters.conflicts.saturating_add(1);
+        match self.derive(level, conflict) {
+            Some(place) => self.go_on(place),
+            None => self.turn_round(),
         }
     }
-}
 
-// Turns the last decision round, and learns nothing; false where there is none, and so no model.
-pub fn flip_last(trail: &mut Trail, variables: usize, causes: &mut Causes, problem: &Store) -> bool
-    requires good { Good (formula_of problem.now) variables trail.old }
-    requires jammed { Jammed (formula_of problem.now) trail.old }
-    requires causes { Caused variables causes.old }
-    requires few { variables < 2147483647 }
-    ensures fallen { result ≡ true → Fallen (formula_of problem.now) variables trail.old trail.new }
-    ensures still { Good (formula_of problem.now) variables trail.new }
-    ensures later { Later trail.old trail.new }
-    ensures none { result ≡ false → (α : Assignment) → Models (formula_of problem.now) α → ⊥ }
-    ensures causes { Caused variables causes.new }
-{
-    if !trail.flip(problem, variables) {
-        return false;
-    }
-    settle(trail, variables, causes, problem, 0);
-    true
-}
-
-// Turns the last decision round, by the clause that refuses all of them; false where there is none,
-// and so no model.
-pub fn turn_round(
-    trail: &mut Trail,
-    variables: usize,
-    causes: &mut Causes,
-    watches: &mut Watches,
-    buffer: &mut [u32],
-    order: &mut Order,
-    phases: &mut [u32],
-    problem: &Store,
-    learned: &mut Store,
-    base: usize,
-    decided: usize,
-    counters: &mut Counters,
-) -> bool
-    requires good { Good (formula_of problem.now) variables trail.old }
-    requires jammed { Jammed (formula_of problem.now) trail.old }
-    requires learned { SoundS (formula_of problem.now) variables learned.old }
-    requires causes { Caused variables causes.old }
-    requires ordered { Ordered (length order.old.scores.now) order.old }
-    requires few { variables < 2147483647 }
-    ensures good { Good (formula_of problem.now) variables trail.new }
-    ensures later { Later trail.old trail.new }
-    ensures less { result ≡ true → (budget : ℕ) → rank variables budget trail.new < rank variables budget trail.old }
-    ensures none { result ≡ false → (α : Assignment) → Models (formula_of problem.now) α → ⊥ }
-    ensures learned { SoundS (formula_of problem.now) variables learned.new }
-    ensures causes { Caused variables causes.new }
-    ensures ordered { Ordered (length order.new.scores.now) order.new }
-{
-    let Some(refusal) = refuse_decisions(trail, variables, problem, buffer) else {
-        return flip_last(trail, variables, causes, problem);
-    };
-    counters.refusals = counters.refusals.saturating_add(1);
-    let size = refusal.size;
-    go_on(
-        trail,
-        variables,
-        causes,
-        watches,
-        order,
-        phases,
-        problem,
-        learned,
-        base,
-        decided,
-        &buffer[0..size],
-        refusal.last,
-        counters,
-    )
-}
-
-// Derives the clause that a conflict teaches into the buffer of the analysis. The place on the trail
-// of the literal that it turns round, or nothing where a step was not seen to be right.
-fn derive(
-    trail: &Trail,
-    variables: usize,
-    causes: &Causes,
-    analysis: &mut Analysis,
-    uses: &mut Uses,
-    order: &mut Order,
-    problem: &Store,
-    learned: &Store,
-    base: usize,
-    level: u32,
-    conflict: u32,
-) -> Option<usize>
-    requires good { Good (formula_of problem.now) variables trail.now }
-    requires stored { StoredS variables problem.now }
-    requires learned { SoundS (formula_of problem.now) variables learned.now }
-    requires base { base ≤ problem.now.count }
-    requires causes { Caused variables causes.now }
-    requires noted { NotedA variables analysis.old }
-    requires ordered { Ordered (length order.old.scores.now) order.old }
-    requires few { variables < 2147483647 }
-    ensures noted { NotedA variables analysis.new }
-    ensures ordered { Ordered (length order.new.scores.now) order.new }
-    ensures clause { IfSome result (λ place. ClauseFollows (formula_of problem.now) variables analysis.new.buffer.now analysis.new.size × (place < trail.now.len)) }
-{
-    analysis.clear(variables);
-    let root = first_decision(trail);
-    let place = analysis.analyze(
-        trail, variables, causes, problem, learned, base, root, level, conflict,
-    )?;
-    bump_met(analysis, order);
-    note_uses(analysis, causes, uses, base, conflict);
-    if !analysis.minimize(trail, variables, causes, problem, learned, base, root) {
-        return None;
-    }
-    if !analysis.collect(trail, variables, problem) {
-        return None;
-    }
-    Some(place)
-}
-
-// Learns from a clause that is false, given by its number; false where there is no model.
-pub fn learn(
-    trail: &mut Trail,
-    variables: usize,
-    causes: &mut Causes,
-    watches: &mut Watches,
-    analysis: &mut Analysis,
-    uses: &mut Uses,
-    order: &mut Order,
-    phases: &mut [u32],
-    problem: &Store,
-    learned: &mut Store,
-    base: usize,
-    decided: usize,
-    level: u32,
-    conflict: u32,
-    counters: &mut Counters,
-) -> bool
-    requires good { Good (formula_of problem.now) variables trail.old }
-    requires jammed { Jammed (formula_of problem.now) trail.old }
-    requires stored { StoredS variables problem.now }
-    requires learned { SoundS (formula_of problem.now) variables learned.old }
-    requires base { base ≤ problem.now.count }
-    requires causes { Caused variables causes.old }
-    requires noted { NotedA variables analysis.old }
-    requires ordered { Ordered (length order.old.scores.now) order.old }
-    requires few { variables < 2147483647 }
-    ensures good { Good (formula_of problem.now) variables trail.new }
-    ensures later { Later trail.old trail.new }
-    ensures less { result ≡ true → (budget : ℕ) → rank variables budget trail.new < rank variables budget trail.old }
-    ensures none { result ≡ false → (α : Assignment) → Models (formula_of problem.now) α → ⊥ }
-    ensures learned { SoundS (formula_of problem.now) variables learned.new }
-    ensures causes { Caused variables causes.new }
-    ensures noted { NotedA variables analysis.new }
-    ensures ordered { Ordered (length order.new.scores.now) order.new }
-{
-    counters.conflicts = counters.conflicts.saturating_add(1);
-    let Some(place) = derive(
-        trail, variables, causes, analysis, uses, order, problem, learned, base, level, conflict,
-    ) else {
-        return turn_round(
-            trail,
-            variables,
-            causes,
-            watches,
-            analysis.buffer,
-            order,
-            phases,
-            problem,
-            learned,
-            base,
-            decided,
-            counters,
+    // Goes back to what holds without a decision. How many literals those are.
+    pub fn begin_anew(&mut self) -> usize
+        ensures same { Same self.old.search self.new.search }
+        ensures rooted { Rooted self.new.search.trail.marks self.new.search.trail.len }
+        ensures len { self.new.search.trail.len ≡ result }
+    {
+        let root = self.search.trail().first_decision();
+        release(
+            self.search.trail(),
+            &mut self.order,
+            self.phases,
+            self.decided,
+            root,
         );
-    };
-    let size = analysis.size;
-    go_on(
-        trail,
-        variables,
-        causes,
-        watches,
-        order,
-        phases,
-        problem,
-        learned,
-        base,
-        decided,
-        &analysis.buffer[0..size],
-        place,
-        counters,
-    )
+        self.search.pop_to(root);
+        root
+    }
 }

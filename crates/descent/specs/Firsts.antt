@@ -1,6 +1,6 @@
 -- The first model: by the variables of a range in their sequence, false first.
 use Rattle.std.specs.Prelude.{◌≡◌, ℕ, ◌+◌, ◌-◌, ◌*◌, ◌^◌, ◌<◌, ◌≤◌, true, false, cond, ◌⊎◌, List, [], ◌∷◌, length, Some, None, Option}
-use Rattle.clauses.specs.declared.store.Store.{Store}
+use Rattle.clauses.specs.Views.{StoreView}
 use Rattle.clauses.specs.Formulas.{Assignment, Models}
 use Rattle.solver.specs.Values.{assignment}
 use Rattle.solver.specs.Assumptions.{NoneWith}
@@ -39,9 +39,9 @@ abbrev pub literal_for : Assignment → ℕ → ℕ
 literal_for α x = cond (α x) (2 * x) (2 * x + 1)
 
 -- so many clauses of one literal more fit
-pub record Room (s : Store) (more : ℕ) : Type 0 where
-  pub spans : 2 * (s.count + more) ≤ length s.spans.now
-  pub words : s.used + more ≤ length s.words.now
+pub record Room (s : StoreView) (more : ℕ) : Type 0 where
+  pub spans : 2 * (length s.formula + more) ≤ s.spans_size
+  pub words : s.used + more ≤ s.words_size
   pub small : s.used + more < 2 ^ 32
 
 -- the first model, with at most as many questions as variables of the range; or there is none, and the values are as they were

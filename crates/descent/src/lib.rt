@@ -4,23 +4,14 @@
 // variables: the first question wishes for the first variable to be false.
 #![tactic(auto)]
 
-ghost use Rattle.std.specs.Prelude.{◌≡◌, ◌+◌, ◌-◌, ◌*◌, ◌<◌, ◌≤◌, true, false, [], ◌∷◌, length};
+ghost use Rattle.std.specs.Prelude.{◌≡◌, ◌+◌, ◌-◌, ◌<◌, ◌≤◌, length};
 ghost use Rattle.clauses.specs.Formulas.{Models};
-ghost use Rattle.clauses.specs.Stores.{formula_of, StoredS, SoundS, Grown};
-ghost use Rattle.trail.specs.Trails.{Good};
-ghost use Rattle.propagation.specs.Looking.{Caused};
-ghost use Rattle.analysis.specs.Marking.{NotedA};
-ghost use Rattle.order.specs.Orders.{Ordered};
+ghost use Rattle.trail.specs.Views.{variables_of, formula_of};
+ghost use Rattle.trail.specs.Trails.{SameClauses};
 ghost use Rattle.solver.specs.Values.{assignment};
 ghost use Rattle.descent.specs.Firsts.{FirstModel, Lowest, literal_for, Room, FirstSays};
 
-use analysis::Analysis;
-use clauses::Store;
-use conflicts::{Counters, Uses};
-use order::Order;
-use propagation::{Causes, Watches};
-use solver::{Guide, Pace, fix, solve_under};
-use trail::Trail;
+use solver::{Guide, Solver};
 
 // The literal of a variable that is true under the values.
 fn literal_at(values: &[u32], place: usize) -> u32
@@ -35,227 +26,70 @@ fn literal_at(values: &[u32], place: usize) -> u32
     }
 }
 
-// Holds the values of the trail.
-fn hold(trail: &Trail, values: &mut [u32])
-    requires { length values.old ≡ length trail.now.values.now }
-    ensures { values.new ≡ trail.now.values.now }
-{
-    values.copy_from_slice(trail.values);
-}
-
 // Asks for a model that is false at a variable where the one that is held is true; it is held then.
 // How many questions that took.
-fn lower(
-    trail: &mut Trail,
-    variables: usize,
-    causes: &mut Causes,
-    watches: &mut Watches,
-    analysis: &mut Analysis,
-    uses: &mut Uses,
-    order: &mut Order,
-    phases: &mut [u32],
-    problem: &Store,
-    learned: &mut Store,
-    base: usize,
-    decided: usize,
-    place: usize,
-    values: &mut [u32],
-    pace: &mut Pace,
-    counters: &mut Counters,
-) -> usize
-    requires good { Good (formula_of problem.now) variables trail.old }
-    requires stored { StoredS variables problem.now }
-    requires learned { SoundS (formula_of problem.now) variables learned.old }
-    requires base { base ≤ problem.now.count }
-    requires causes { Caused variables causes.old }
-    requires noted { NotedA variables analysis.old }
-    requires ordered { Ordered (length order.old.scores.now) order.old }
-    requires few { variables < 2147483647 }
-    requires size { length values.old ≡ variables }
-    requires place { place < variables }
-    requires model { Models (formula_of problem.now) (assignment values.old) }
-    ensures good { Good (formula_of problem.now) variables trail.new }
-    ensures learned { SoundS (formula_of problem.now) variables learned.new }
-    ensures causes { Caused variables causes.new }
-    ensures noted { NotedA variables analysis.new }
-    ensures ordered { Ordered (length order.new.scores.now) order.new }
-    ensures model { Models (formula_of problem.now) (assignment values.new) }
-    ensures lowest { Lowest (formula_of problem.now) (assignment values.new) place }
+fn lower(solver: &mut Solver, place: usize, values: &mut [u32]) -> usize
+    requires size { length values.old ≡ variables_of solver.old.learner.search.trail }
+    requires place { place < variables_of solver.old.learner.search.trail }
+    requires few { variables_of solver.old.learner.search.trail < 2147483647 }
+    requires model { Models (formula_of solver.old.learner.search.trail) (assignment values.old) }
+    ensures clauses { SameClauses solver.old.learner.search.trail solver.new.learner.search.trail }
+    ensures model { Models (formula_of solver.new.learner.search.trail) (assignment values.new) }
+    ensures lowest { Lowest (formula_of solver.new.learner.search.trail) (assignment values.new) place }
     ensures few { result ≤ 1 }
 {
     if values[place] != 1 {
         return 0;
     }
     let wanted = [2 * place as u32 + 1];
-    if solve_under(
-        trail,
-        variables,
-        causes,
-        watches,
-        analysis,
-        uses,
-        order,
-        phases,
-        problem,
-        learned,
-        base,
-        decided,
-        &wanted,
-        1,
-        Guide::Activity,
-        pace,
-        counters,
-    ) {
-        hold(trail, values);
-        return 1;
+    if solver.solve_under(&wanted, 1, Guide::Activity) {
+        solver.hold(values);
     }
     1
 }
 
 // From a model that is lowest at the first variable of a range: settles one variable after the other.
 // How many questions that took.
-fn descend(
-    trail: &mut Trail,
-    variables: usize,
-    causes: &mut Causes,
-    watches: &mut Watches,
-    analysis: &mut Analysis,
-    uses: &mut Uses,
-    order: &mut Order,
-    phases: &mut [u32],
-    problem: &mut Store,
-    learned: &mut Store,
-    base: usize,
-    decided: usize,
-    low: usize,
-    high: usize,
-    values: &mut [u32],
-    pace: &mut Pace,
-    counters: &mut Counters,
-) -> usize
-    requires good { Good (formula_of problem.old) variables trail.old }
-    requires stored { StoredS variables problem.old }
-    requires learned { SoundS (formula_of problem.old) variables learned.old }
-    requires base { base ≤ problem.old.count }
-    requires causes { Caused variables causes.old }
-    requires noted { NotedA variables analysis.old }
-    requires ordered { Ordered (length order.old.scores.now) order.old }
-    requires few { variables < 2147483647 }
-    requires size { length values.old ≡ variables }
-    requires range { (low < high) × (high ≤ variables) }
-    requires units { Room problem.old (high - low) }
-    requires model { Models (formula_of problem.old) (assignment values.old) }
-    requires lowest { Lowest (formula_of problem.old) (assignment values.old) low }
-    ensures first { FirstModel (formula_of problem.old) (assignment values.new) low high }
-    ensures grown { Grown problem.old problem.new }
+fn descend(solver: &mut Solver, low: usize, high: usize, values: &mut [u32]) -> usize
+    requires size { length values.old ≡ variables_of solver.old.learner.search.trail }
+    requires few { variables_of solver.old.learner.search.trail < 2147483647 }
+    requires range { (low < high) × (high ≤ variables_of solver.old.learner.search.trail) }
+    requires units { Room solver.old.learner.search.trail.units (high - low) }
+    requires model { Models (formula_of solver.old.learner.search.trail) (assignment values.old) }
+    requires lowest { Lowest (formula_of solver.old.learner.search.trail) (assignment values.old) low }
+    ensures first { FirstModel (formula_of solver.old.learner.search.trail) (assignment values.new) low high }
     ensures questions { result + 1 ≤ high - low }
 {
-    let mut place = low;
     let mut questions = 0;
-    loop {
-        let literal = literal_at(values, place);
-        fix(
-            trail, variables, causes, order, phases, problem, learned, decided, literal, pace,
-        );
-        place += 1;
-        if place == high {
-            break questions;
+    for place in low..high {
+        if place > low {
+            questions += lower(solver, place, values);
         }
-        questions += lower(
-            trail, variables, causes, watches, analysis, uses, order, phases, problem, learned,
-            base, decided, place, values, pace, counters,
-        );
+        let _ = solver.fix(literal_at(values, place));
     }
+    questions
 }
 
-// The first model of the problem, by the variables of a range; the values are it then. How many
-// questions that took; nothing where there is no model. The first so many clauses are watched, and the
-// first so many variables decided first.
-pub fn first_model(
-    trail: &mut Trail,
-    variables: usize,
-    causes: &mut Causes,
-    watches: &mut Watches,
-    analysis: &mut Analysis,
-    uses: &mut Uses,
-    order: &mut Order,
-    phases: &mut [u32],
-    problem: &mut Store,
-    learned: &mut Store,
-    base: usize,
-    decided: usize,
-    low: usize,
-    high: usize,
-    values: &mut [u32],
-    pace: &mut Pace,
-    counters: &mut Counters,
-) -> Option<usize>
-    requires good { Good (formula_of problem.old) variables trail.old }
-    requires stored { StoredS variables problem.old }
-    requires learned { SoundS (formula_of problem.old) variables learned.old }
-    requires base { base ≤ problem.old.count }
-    requires causes { Caused variables causes.old }
-    requires noted { NotedA variables analysis.old }
-    requires ordered { Ordered (length order.old.scores.now) order.old }
-    requires few { variables < 2147483647 }
-    requires size { length values.old ≡ variables }
-    requires range { high ≤ variables }
-    requires units { Room problem.old (high - low) }
-    ensures says { FirstSays (formula_of problem.old) low high values.old values.new result }
-    ensures grown { Grown problem.old problem.new }
+// The first model of the clauses, by the variables of a range; the values are it then. How many
+// questions that took; nothing where there is no model.
+pub fn first_model(solver: &mut Solver, low: usize, high: usize, values: &mut [u32]) -> Option<usize>
+    requires size { length values.old ≡ variables_of solver.old.learner.search.trail }
+    requires few { variables_of solver.old.learner.search.trail < 2147483647 }
+    requires range { high ≤ variables_of solver.old.learner.search.trail }
+    requires units { Room solver.old.learner.search.trail.units (high - low) }
+    ensures says { FirstSays (formula_of solver.old.learner.search.trail) low high values.old values.new result }
 {
     if low >= high {
-        let nothing: [u32; 0] = [];
-        if !solve_under(
-            trail,
-            variables,
-            causes,
-            watches,
-            analysis,
-            uses,
-            order,
-            phases,
-            problem,
-            learned,
-            base,
-            decided,
-            &nothing,
-            0,
-            Guide::Activity,
-            pace,
-            counters,
-        ) {
+        if !solver.solve_under(&[], 0, Guide::Activity) {
             return None;
         }
-        hold(trail, values);
+        solver.hold(values);
         return Some(1);
     }
     let wish = [2 * low as u32 + 1];
-    if !solve_under(
-        trail,
-        variables,
-        causes,
-        watches,
-        analysis,
-        uses,
-        order,
-        phases,
-        problem,
-        learned,
-        base,
-        decided,
-        &wish,
-        0,
-        Guide::Activity,
-        pace,
-        counters,
-    ) {
+    if !solver.solve_under(&wish, 0, Guide::Activity) {
         return None;
     }
-    hold(trail, values);
-    let questions = descend(
-        trail, variables, causes, watches, analysis, uses, order, phases, problem, learned, base,
-        decided, low, high, values, pace, counters,
-    );
-    Some(1 + questions)
+    solver.hold(values);
+    Some(1 + descend(solver, low, high, values))
 }

@@ -3,76 +3,23 @@
 // its two spans up to the second.
 #![tactic(auto)]
 
-ghost use Rattle.std.specs.Prelude.{◌≡◌, ℕ, ◌+◌, ◌*◌, ◌^◌, ◌<◌, ◌≤◌, true, false, length, slice_index};
-ghost use Rattle.clauses.specs.Stores.{Stored};
-ghost use Rattle.solver.specs.Assumptions.{KnownAll};
-ghost use Rattle.sat.specs.Promise.{floor_of, AnswerPost, CodePost};
+ghost use Rattle.std.specs.Prelude.{◌≡◌, ℕ, ◌+◌, ◌*◌, ◌^◌, ◌<◌, length, slice_index};
+ghost use Rattle.sat.specs.Promise.{floor_of, code, AnswerPost, CodePost};
 ghost use Rattle.sat.specs.Under.{UnderPost, UnderCodePost, FirstPost, FirstCodePost};
 
-use clauses::Store;
+use clauses::{Clauses, Store, all_known};
 use conflicts::Counters;
 
-// One question under assumptions.
-mod asking;
-// The first model.
-mod finding;
+// Questions on lent work.
+mod solving;
 
-pub use asking::ask_stored;
-pub use finding::first_stored;
+pub use solving::{ask_stored, first_stored};
 
-// What came of clauses: they have a model; they have none; or they are no clauses, or too little
-// memory was lent.
-#[derive(Clone, Copy)]
-pub enum Answer {
-    Model,
-    None,
+// Why a question is refused: these are no clauses, or no assumptions; or too little memory is lent.
+#[derive(Clone, Copy, PartialEq, Eq, Debug)]
+pub enum Refusal {
     Bad,
     Few,
-}
-
-// What came of the question for the first model: it was found with so many questions.
-#[derive(Clone, Copy)]
-pub enum FirstAnswer {
-    First(usize),
-    None,
-    Bad,
-    Few,
-}
-
-// Whether the first spans and words are clauses of so many variables.
-fn is_stored(spans: &[u32], words: &[u32], count: usize, used: usize, variables: usize) -> bool
-    ensures yes { result ≡ true → Stored variables spans.now words.now count used }
-    ensures no { result ≡ false → Stored variables spans.now words.now count used → ⊥ }
-{
-    if count > spans.len() / 2 || used > words.len() || used > 0xffff_ffff {
-        return false;
-    }
-    for place in 0..used {
-        if (words[place] / 2) as usize >= variables {
-            return false;
-        }
-    }
-    for clause in 0..count {
-        let from = spans[2 * clause];
-        let to = spans[2 * clause + 1];
-        if from > to || to as usize > used {
-            return false;
-        }
-    }
-    true
-}
-
-// Whether all are literals of so many variables.
-fn all_known(assumptions: &[u32], variables: usize) -> bool
-    ensures yes { result ≡ true → KnownAll variables assumptions.now }
-    ensures no { result ≡ false → KnownAll variables assumptions.now → ⊥ }
-{
-    for index in 0..assumptions.len() {
-        if (assumptions[index] / 2) as usize >= variables {
-            return false;
-        }
-    }
-    true
 }
 
 // The words that have to be lent for so many variables and clauses.
@@ -94,8 +41,8 @@ fn write_counters(counters: &Counters, counts: &mut [u64]) {
         counters.refusals,
         counters.unkept,
     ];
-    for index in 0..counts.len().min(6) {
-        counts[index] = all[index];
+    for (count, counter) in counts.iter_mut().zip(all) {
+        *count = counter;
     }
 }
 
@@ -109,43 +56,26 @@ pub fn ask(
     values: &mut [u32],
     decided: usize,
     work: &mut [u32],
-) -> Answer
+) -> Result<bool, Refusal>
     ensures spans { spans.new ≡ spans.old }
     ensures words { words.new ≡ words.old }
     ensures answer { AnswerPost spans.old words.old values.old values.new (length work.old) result }
 {
-    let variables = values.len();
-    let count = spans.len() / 2;
-    let used = words.len();
-    if variables >= 0x7fff_ffff || !is_stored(spans, words, count, used, variables) {
-        return Answer::Bad;
-    }
-    if work.len() < floor(variables, count) {
-        return Answer::Few;
-    }
-    let problem = Store {
-        spans,
-        words,
-        count,
-        used,
-    };
-    let mut counters = Counters::default();
-    if ask_stored(
-        &problem,
-        variables,
-        values,
-        decided,
-        &[],
-        work,
-        &mut counters,
-    ) {
-        Answer::Model
-    } else {
-        Answer::None
+    ask_under(spans, words, values, decided, &[], &mut [], work)
+}
+
+// An answer as a number: 0 where there is none, 1 a model, 2 bad clauses or assumptions, 3 few words.
+fn code_of(answer: Result<bool, Refusal>) -> u32
+    ensures { result ≡ code answer }
+{
+    match answer {
+        Ok(false) => 0,
+        Ok(true) => 1,
+        Err(Refusal::Bad) => 2,
+        Err(Refusal::Few) => 3,
     }
 }
 
-// The answer as a number: 0 where there is none, 1 a model, 2 bad clauses, 3 few words.
 pub fn sat_ask(
     spans: &mut [u32],
     words: &mut [u32],
@@ -157,12 +87,7 @@ pub fn sat_ask(
     ensures words { words.new ≡ words.old }
     ensures code { CodePost spans.old words.old values.old values.new (length work.old) result }
 {
-    match ask(spans, words, values, decided, work) {
-        Answer::None => 0,
-        Answer::Model => 1,
-        Answer::Bad => 2,
-        Answer::Few => 3,
-    }
+    code_of(ask(spans, words, values, decided, work))
 }
 
 // Whether clauses have a model in which the assumptions are true. There are as many variables as
@@ -176,44 +101,28 @@ pub fn ask_under(
     assumptions: &[u32],
     counts: &mut [u64],
     work: &mut [u32],
-) -> Answer
+) -> Result<bool, Refusal>
     ensures spans { spans.new ≡ spans.old }
     ensures words { words.new ≡ words.old }
     ensures answer { UnderPost spans.old words.old assumptions.now values.old values.new (length work.old) result }
 {
     let variables = values.len();
-    let count = spans.len() / 2;
-    let used = words.len();
-    if variables >= 0x7fff_ffff || !is_stored(spans, words, count, used, variables) {
-        return Answer::Bad;
+    if variables >= 0x7fff_ffff {
+        return Err(Refusal::Bad);
     }
+    let problem = Clauses::parse(variables, spans, words).ok_or(Refusal::Bad)?;
     if !all_known(assumptions, variables) {
-        return Answer::Bad;
+        return Err(Refusal::Bad);
     }
-    if work.len() < floor(variables, count) {
-        return Answer::Few;
+    if work.len() < floor(variables, problem.len()) {
+        return Err(Refusal::Few);
     }
-    let problem = Store {
-        spans,
-        words,
-        count,
-        used,
-    };
     let mut counters = Counters::default();
-    let found = ask_stored(
-        &problem,
-        variables,
-        values,
-        decided,
-        assumptions,
-        work,
-        &mut counters,
-    );
+    let found = ask_stored(problem, values, decided, assumptions, work, &mut counters);
     write_counters(&counters, counts);
-    if found { Answer::Model } else { Answer::None }
+    Ok(found)
 }
 
-// The answer as a number: 0 where there is none, 1 a model, 2 bad clauses or assumptions, 3 few words.
 pub fn sat_ask_under(
     spans: &mut [u32],
     words: &mut [u32],
@@ -227,17 +136,21 @@ pub fn sat_ask_under(
     ensures words { words.new ≡ words.old }
     ensures code { UnderCodePost spans.old words.old assumptions.now values.old values.new (length work.old) result }
 {
-    match ask_under(spans, words, values, decided, assumptions, counts, work) {
-        Answer::None => 0,
-        Answer::Model => 1,
-        Answer::Bad => 2,
-        Answer::Few => 3,
-    }
+    code_of(ask_under(
+        spans,
+        words,
+        values,
+        decided,
+        assumptions,
+        counts,
+        work,
+    ))
 }
 
 // The first model of clauses by the variables of a range, in their sequence, false first. The first so
 // many spans and words are the clauses, which stay as they are; there must be room behind them for a
-// clause of one literal more for each variable of the range, which is written there.
+// clause of one literal more for each variable of the range, which is written there. How many questions
+// that took; nothing where there is no model.
 pub fn first(
     spans: &mut [u32],
     words: &mut [u32],
@@ -249,35 +162,33 @@ pub fn first(
     high: usize,
     counts: &mut [u64],
     work: &mut [u32],
-) -> FirstAnswer
+) -> Result<Option<usize>, Refusal>
     ensures says { FirstPost spans.old words.old count used low high values.old values.new (length work.old) result }
     ensures spans { (p : ℕ) → p < 2 * count → slice_index spans.new p ≡ slice_index spans.old p }
     ensures words { (p : ℕ) → p < used → slice_index words.new p ≡ slice_index words.old p }
 {
     let variables = values.len();
     if variables >= 0x7fff_ffff || high > variables {
-        return FirstAnswer::Bad;
+        return Err(Refusal::Bad);
     }
-    if !is_stored(spans, words, count, used, variables) {
-        return FirstAnswer::Bad;
+    if count > spans.len() / 2 || used > words.len() {
+        return Err(Refusal::Bad);
     }
+    let (spans, spare_spans) = spans.split_at_mut(2 * count);
+    let (words, spare_words) = words.split_at_mut(used);
+    let problem = Clauses::parse(variables, spans, words).ok_or(Refusal::Bad)?;
     let more = high.saturating_sub(low);
-    if more > spans.len() / 2 - count || more > words.len() - used || more > 0xffff_ffff - used {
-        return FirstAnswer::Few;
+    if more > spare_spans.len() / 2 || more > spare_words.len() || more > 0xffff_ffff - used {
+        return Err(Refusal::Few);
     }
     if work.len() < floor(variables, count) {
-        return FirstAnswer::Few;
+        return Err(Refusal::Few);
     }
-    let mut problem = Store {
-        spans,
-        words,
-        count,
-        used,
-    };
+    let units = Store::new(variables, spare_spans, spare_words);
     let mut counters = Counters::default();
     let found = first_stored(
-        &mut problem,
-        variables,
+        problem,
+        units,
         values,
         decided,
         low,
@@ -286,10 +197,7 @@ pub fn first(
         &mut counters,
     );
     write_counters(&counters, counts);
-    match found {
-        Some(questions) => FirstAnswer::First(questions),
-        None => FirstAnswer::None,
-    }
+    Ok(found)
 }
 
 // The answer as a number: 0 where there is none, 1 bad clauses, 2 few words, and else how many
@@ -313,9 +221,9 @@ pub fn sat_first(
     match first(
         spans, words, count, used, values, decided, low, high, counts, work,
     ) {
-        FirstAnswer::None => 0,
-        FirstAnswer::Bad => 1,
-        FirstAnswer::Few => 2,
-        FirstAnswer::First(questions) => (questions as u64).saturating_add(2),
+        Ok(None) => 0,
+        Err(Refusal::Bad) => 1,
+        Err(Refusal::Few) => 2,
+        Ok(Some(questions)) => (questions as u64).saturating_add(2),
     }
 }

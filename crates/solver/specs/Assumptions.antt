@@ -1,8 +1,8 @@
 -- Assumptions, and what comes of deciding on.
-use Rattle.std.specs.Prelude.{◌≡◌, ℕ, ◌/◌, ◌<◌, ◌≤◌, true, ◌⊎◌, List, length, Some, None, Option, slice_index, slice_index_or}
+use Rattle.std.specs.Prelude.{◌≡◌, ℕ, ◌/◌, ◌<◌, true, ◌⊎◌, List, length, Some, None, Option, slice_index, slice_index_or}
 use Rattle.clauses.specs.Formulas.{Assignment, value, Models}
-use Rattle.trail.specs.declared.Trail.{Trail}
-use Rattle.trail.specs.Trails.{IsTrueUnder, IsFalseUnder, OnTrail, Good, AssumedT, rank}
+use Rattle.trail.specs.Views.{TrailView, variables_of, formula_of}
+use Rattle.trail.specs.Trails.{IsTrueUnder, IsFalseUnder, OnTrail, SameClauses, Falls, FallsOrStays, AssumedT}
 use Rattle.solver.specs.Values.{Full}
 use Rattle.solver.specs.declared.assumptions.Wanted.{Wanted}
 use Rattle.solver.specs.declared.assumptions.Wanted.TheVariants.{Refuted, Open, Settled}
@@ -52,26 +52,24 @@ abbrev pub NextDecision : List ℕ → ℕ → List ℕ → ℕ → ℕ → Type
 NextDecision assumptions k literals n l = OnTrail assumptions k l ⊎ ((i : ℕ) → i < k → OnTrail literals n (slice_index assumptions i))
 
 -- a decision more; no model has all assumptions; or every variable has a value, and the assumptions are true
-pub record DecidedMore (f : List (List ℕ)) (v : ℕ) (assumptions : List ℕ) (k : ℕ) (s t : Trail) : Type 0 where
-  pub good : Good f v t
+pub record DecidedMore (assumptions : List ℕ) (k : ℕ) (s t : TrailView) : Type 0 where
+  pub clauses : SameClauses s t
   pub assumed : AssumedT assumptions k t
-  pub less : (budget : ℕ) → rank v budget t < rank v budget s
+  pub less : Falls s t
 
-pub record RefutedHere (f : List (List ℕ)) (v : ℕ) (assumptions : List ℕ) (k : ℕ) (t : Trail) : Type 0 where
-  pub good : Good f v t
-  pub none : NoneWith f assumptions k
+pub record RefutedHere (assumptions : List ℕ) (k : ℕ) (s t : TrailView) : Type 0 where
+  pub clauses : SameClauses s t
+  pub none : NoneWith (formula_of t) assumptions k
 
-pub record CompleteHere (f : List (List ℕ)) (v : ℕ) (assumptions : List ℕ) (k : ℕ) (s t : Trail) : Type 0 where
-  pub good : Good f v t
-  pub assumed : AssumedT assumptions k t
-  pub falls : (budget : ℕ) → rank v budget t ≤ rank v budget s
-  pub full : Full v t.values.now
-  pub holds : TrueAll t.values.now assumptions k
+pub record CompleteHere (assumptions : List ℕ) (k : ℕ) (s t : TrailView) : Type 0 where
+  pub same : t ≡ s
+  pub full : Full (variables_of t) t.values
+  pub holds : TrueAll t.values assumptions k
 
-abbrev pub StepSays : List (List ℕ) → ℕ → List ℕ → ℕ → Trail → Trail → Step → Type 0
-StepSays f v assumptions k s t step.Decided = DecidedMore f v assumptions k s t
-StepSays f v assumptions k s t step.Refuted = RefutedHere f v assumptions k t
-StepSays f v assumptions k s t step.Complete = CompleteHere f v assumptions k s t
+abbrev pub StepSays : List ℕ → ℕ → TrailView → TrailView → Step → Type 0
+StepSays assumptions k s t step.Decided = DecidedMore assumptions k s t
+StepSays assumptions k s t step.Refuted = RefutedHere assumptions k s t
+StepSays assumptions k s t step.Complete = CompleteHere assumptions k s t
 
 -- all wishes are in force, or no model has them all
 abbrev pub Wished : List (List ℕ) → List ℕ → ℕ → Type 0

@@ -1,6 +1,7 @@
 -- Values as an assignment.
-use Rattle.std.specs.Prelude.{◌≡◌, ℕ, ◌<◌, ◌≤◌, List, Some, None, Option, ◌==◌, ◌≢◌, slice_index}
-use Rattle.clauses.specs.Formulas.{Assignment}
+use Rattle.std.specs.Prelude.{◌≡◌, ℕ, ◌<◌, List, length, Some, None, Option, ◌==◌, ◌≢◌, slice_index}
+use Rattle.clauses.specs.Formulas.{Assignment, Satisfies}
+use Rattle.clauses.specs.Stores.{Known, clause_at}
 use Rattle.trail.specs.Trails.{IsTrueUnder}
 
 -- the variables that are true
@@ -16,6 +17,17 @@ abbrev pub OpenSays : ℕ → List ℕ → Option ℕ → Type 0
 OpenSays v values None = Full v values
 OpenSays v values (Some x) = (x < v) × (slice_index values x ≡ 0)
 
--- no literal between two places is true
-abbrev pub NoneTrue : List ℕ → List ℕ → ℕ → ℕ → Type 0
-NoneTrue values words i e = (p : ℕ) → i ≤ p → p < e → IsTrueUnder values (slice_index words p) → ⊥
+-- no literal of a clause is true
+abbrev pub NoneTrue : List ℕ → List ℕ → Type 0
+NoneTrue values clause = (p : ℕ) → p < length clause → IsTrueUnder values (slice_index clause p) → ⊥
+
+-- the values satisfy each clause
+abbrev pub AllSatisfied : List ℕ → List (List ℕ) → Type 0
+AllSatisfied values f = (k : ℕ) → k < length f → Satisfies (assignment values) (clause_at f k)
+
+-- one clause, of v variables' literals, has none that is true
+pub record SomeFalse (v : ℕ) (values : List ℕ) (f : List (List ℕ)) : Type 0 where
+  pub at : ℕ
+  pub inside : at < length f
+  pub known : Known v (clause_at f at)
+  pub none : NoneTrue values (clause_at f at)

@@ -1,37 +1,30 @@
 // Forgetting, and what comes with it: the clauses that are kept have new numbers, so all watches are
 // made anew. A clause that is true without any decision is no longer watched.
-ghost use Rattle.std.specs.Prelude.{◌≡◌, ◌<◌, ◌≤◌, length};
-ghost use Rattle.clauses.specs.Stores.{formula_of, StoredS, SoundS};
+ghost use Rattle.std.specs.Prelude.{◌≡◌};
+ghost use Rattle.clauses.specs.Stores.{Known};
+ghost use Rattle.trail.specs.Views.{variables_of};
 
-use clauses::Store;
+use conflicts::Learner;
 use learning::forget;
-use propagation::Watches;
+use propagation::Search;
 use trail::Trail;
 
 // Two literals of a clause to watch, those first that are not false; nothing where one is true.
-fn pick(trail: &Trail, variables: usize, store: &Store, clause: usize) -> Option<(u32, u32)>
-    requires size { length trail.now.values.now ≡ variables }
-    requires stored { StoredS variables store.now }
-    requires clause { clause < store.now.count }
+fn pick(trail: &Trail, clause: &[u32]) -> Option<(u32, u32)>
+    requires { Known (variables_of trail.now) clause.now }
 {
-    let from = store.from(clause);
-    let to = store.to(clause);
-    if from >= to {
-        return None;
-    }
-    let mut one = store.words[from];
-    let mut other = store.words[to - 1];
+    let mut one = *clause.first()?;
+    let mut other = *clause.last()?;
     let mut found: u32 = 0;
-    for place in from..to {
-        let literal = store.words[place];
-        if trail.holds(literal) {
+    for literal in clause {
+        if trail.holds(*literal) {
             return None;
         }
-        if !trail.fails(literal) {
+        if !trail.fails(*literal) {
             if found == 0 {
-                one = literal;
+                one = *literal;
             } else if found == 1 {
-                other = literal;
+                other = *literal;
             }
             found = found.saturating_add(1);
         }
@@ -39,49 +32,26 @@ fn pick(trail: &Trail, variables: usize, store: &Store, clause: usize) -> Option
     Some((one, other))
 }
 
-// Watches the first so many clauses of a store, which are numbered from the given number on.
-fn watch_all(
-    trail: &Trail,
-    variables: usize,
-    watches: &mut Watches,
-    store: &Store,
-    count: usize,
-    from: usize,
-)
-    requires size { length trail.now.values.now ≡ variables }
-    requires stored { StoredS variables store.now }
-    requires count { count ≤ store.now.count }
+// Has a clause watched, given by its number.
+fn watch(search: &mut Search, number: u32)
+    ensures { search.new ≡ search.old }
 {
-    for clause in 0..count {
-        if let Some((one, other)) = pick(trail, variables, store, clause) {
-            let number = from.saturating_add(clause);
-            if number < 0x7fff_ffff {
-                watches.attach(number as u32, one, other);
-            }
-        }
+    let Some(clause) = search.clause(number as usize) else {
+        return;
+    };
+    if let Some((one, other)) = pick(search.trail(), clause) {
+        search.attach(number, one, other);
     }
 }
 
 // Forgets the worse half of what was learned.
-pub fn reduce(
-    trail: &Trail,
-    variables: usize,
-    watches: &mut Watches,
-    uses: &mut [u32],
-    clock: u32,
-    problem: &Store,
-    learned: &mut Store,
-    base: usize,
-)
-    requires size { length trail.now.values.now ≡ variables }
-    requires stored { StoredS variables problem.now }
-    requires learned { SoundS (formula_of problem.now) variables learned.old }
-    requires base { base ≤ problem.now.count }
-    ensures learned { SoundS (formula_of problem.now) variables learned.new }
+pub fn reduce(learner: &mut Learner)
+    ensures { learner.new.search.trail ≡ learner.old.search.trail }
 {
-    forget(learned, variables, problem, uses, clock);
-    watches.detach_all();
-    watch_all(trail, variables, watches, problem, base, 0);
-    let count = learned.count;
-    watch_all(trail, variables, watches, learned, count, base);
+    forget(&mut learner.search, &mut learner.uses);
+    let base = learner.search.trail().problem().len();
+    let count = base.saturating_add(learner.search.learned());
+    for number in 0..count.min(0x7fff_ffff) {
+        watch(&mut learner.search, number as u32);
+    }
 }

@@ -1,23 +1,23 @@
 // Which variable is to be decided next; and when all have a value, whether these are a model.
-ghost use Rattle.std.specs.Prelude.{◌≡◌, ◌<◌, ◌≤◌, true, false, length};
-ghost use Rattle.clauses.specs.Formulas.{Models};
-ghost use Rattle.clauses.specs.Stores.{from, to, formula_of, StoredS, SomeTrue};
-ghost use Rattle.trail.specs.Trails.{Good, Jammed};
-ghost use Rattle.order.specs.Orders.{Ordered};
-ghost use Rattle.solver.specs.Values.{assignment, Full, OpenSays, NoneTrue};
+ghost use Rattle.std.specs.Prelude.{◌≡◌, ◌≤◌, true, false};
+ghost use Rattle.clauses.specs.Formulas.{Models, Satisfies};
+ghost use Rattle.clauses.specs.Stores.{Known};
+ghost use Rattle.trail.specs.Views.{variables_of, formula_of};
+ghost use Rattle.trail.specs.Trails.{Jammed};
+ghost use Rattle.solver.specs.Values.{assignment, Full, OpenSays, NoneTrue, AllSatisfied, SomeFalse};
 
-use clauses::Store;
+use clauses::Clauses;
 use order::Order;
 use trail::Trail;
 
 // The first of the first so many variables that has no value.
 pub fn open_variable(trail: &Trail, most: usize) -> Option<u32>
-    requires within { most ≤ length trail.now.values.now }
-    requires few { most < 2147483647 }
-    ensures { OpenSays most trail.now.values.now result }
+    requires { most ≤ variables_of trail.now }
+    ensures { OpenSays most trail.now.values result }
 {
-    for variable in 0..most {
-        if trail.values[variable] == 0 {
+    trail.keeps();
+    for (variable, value) in trail.values()[..most].iter().enumerate() {
+        if *value == 0 {
             return Some(variable as u32);
         }
     }
@@ -25,49 +25,54 @@ pub fn open_variable(trail: &Trail, most: usize) -> Option<u32>
 }
 
 // The first variable without a value by an order, or any.
-pub fn next_variable(trail: &Trail, variables: usize, order: &mut Order) -> Option<u32>
-    requires size { length trail.now.values.now ≡ variables }
-    requires few { variables < 2147483647 }
-    requires ordered { Ordered (length order.old.scores.now) order.old }
-    ensures ordered { Ordered (length order.new.scores.now) order.new }
-    ensures open { OpenSays variables trail.now.values.now result }
+pub fn next_variable(trail: &Trail, order: &mut Order) -> Option<u32>
+    requires { order.old.variables ≡ variables_of trail.now }
+    ensures variables { order.new.variables ≡ order.old.variables }
+    ensures open { OpenSays (variables_of trail.now) trail.now.values result }
 {
+    trail.keeps();
     while let Some(variable) = order.pop() {
-        if (variable as usize) < variables && trail.values[variable as usize] == 0 {
+        if trail.values()[variable as usize] == 0 {
             return Some(variable);
         }
     }
-    open_variable(trail, variables)
+    open_variable(trail, trail.variables())
 }
 
 // Whether a literal of a clause is true.
-fn is_satisfied(trail: &Trail, variables: usize, problem: &Store, clause: usize) -> bool
-    requires size { length trail.now.values.now ≡ variables }
-    requires stored { StoredS variables problem.now }
-    requires clause { clause < problem.now.count }
-    ensures yes { result ≡ true → SomeTrue (assignment trail.now.values.now) problem.now.words.now (from problem.now.spans.now clause) (to problem.now.spans.now clause) }
-    ensures no { result ≡ false → NoneTrue trail.now.values.now problem.now.words.now (from problem.now.spans.now clause) (to problem.now.spans.now clause) }
+fn is_satisfied(trail: &Trail, clause: &[u32]) -> bool
+    requires { Known (variables_of trail.now) clause.now }
+    ensures yes { result ≡ true → Satisfies (assignment trail.now.values) clause.now }
+    ensures no { result ≡ false → NoneTrue trail.now.values clause.now }
 {
-    for place in problem.from(clause)..problem.to(clause) {
-        if trail.holds(problem.words[place]) {
+    for literal in clause {
+        if trail.holds(*literal) {
             return true;
         }
     }
     false
 }
 
-// Whether the values are a model; if not, none has the decisions.
-pub fn is_model(trail: &Trail, variables: usize, problem: &Store) -> bool
-    requires good { Good (formula_of problem.now) variables trail.now }
-    requires stored { StoredS variables problem.now }
-    requires full { Full variables trail.now.values.now }
-    ensures model { result ≡ true → Models (formula_of problem.now) (assignment trail.now.values.now) }
-    ensures jammed { result ≡ false → Jammed (formula_of problem.now) trail.now }
+// Whether a literal of each clause is true.
+fn are_satisfied(trail: &Trail, clauses: &Clauses) -> bool
+    requires { clauses.now.variables ≡ variables_of trail.now }
+    ensures yes { result ≡ true → AllSatisfied trail.now.values clauses.now.formula }
+    ensures no { result ≡ false → SomeFalse (variables_of trail.now) trail.now.values clauses.now.formula }
 {
-    for clause in 0..problem.count {
-        if !is_satisfied(trail, variables, problem, clause) {
+    for number in 0..clauses.len() {
+        if !is_satisfied(trail, clauses.clause(number)) {
             return false;
         }
     }
     true
+}
+
+// Whether the values are a model; if not, none has the decisions.
+pub fn is_model(trail: &Trail) -> bool
+    requires { Full (variables_of trail.now) trail.now.values }
+    ensures model { result ≡ true → Models (formula_of trail.now) (assignment trail.now.values) }
+    ensures jammed { result ≡ false → Jammed trail.now }
+{
+    trail.keeps();
+    are_satisfied(trail, trail.problem()) && are_satisfied(trail, &trail.units().clauses())
 }

@@ -1,2 +1,0 @@
--- the first literals of a buffer as a clause
-pub mod Parts

@@ -1,4 +1,0 @@
--- values and models
-pub mod Checks
--- a clause more
-pub mod Fixing

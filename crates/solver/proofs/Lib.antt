@@ -1,0 +1,4 @@
+-- values and models
+pub mod Checks
+-- a clause more
+pub mod Fixing

@@ -1,2 +1,4 @@
 -- marks come and go
 pub mod Marks
+-- the clause that refuses all decisions
+pub mod Refusals

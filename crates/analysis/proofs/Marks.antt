@@ -1,12 +1,18 @@
 -- Marks come and go, and every model differs at a marked variable.
-use Rattle.std.proofs.Common.{◌≡◌, ℕ, ◌+◌, ◌*◌, ◌/◌, ◌%◌, ◌<◌, ◌≤◌, Bool, true, false, cond, eqb, ◌⊎◌, List, length, get_or, set, sym, ap, ◌∙◌, subst, inl, inr, arith}
-use Rattle.std.proofs.lemmas.List.{length-set, get_or-set_same, get_or-set_other}
-use Rattle.std.proofs.lemmas.Bool.{cases_eq, both_ways, not-true, eq-eqb, ne_eqb}
-use Rattle.clauses.specs.Formulas.{Assignment, value, negation, Models}
-use Rattle.clauses.specs.Stores.{from, to, SomeTrue, Sound}
-use Rattle.clauses.proofs.Literals.{value_negation}
-use Rattle.trail.specs.Trails.{IsTrueUnder, IsFalseUnder, OnTrail, Held}
-use Rattle.analysis.specs.Marking.{literal_of, Noted, Grown, Never, Differs, Apart, Taken, AllTaken, Elsewhere, Absorbed, Rooted}
+use Rattle.std.proofs.Common.{◌≡◌, ℕ, ◌+◌, ◌*◌, ◌/◌, ◌%◌, ◌<◌, Bool, true, false, cond, eqb, ◌⊎◌, List, [], ◌∷◌, ◌++◌, length, get_or, set, take, sym, ap, ◌∙◌, subst, inl, inr, arith}
+use Rattle.std.specs.Prelude.{Some, None, Option, OnSome}
+use Rattle.std.proofs.Math.ListN.{get_or-append, length-append}
+use Rattle.std.proofs.Math.Seq.{get_or-append_seam}
+use Rattle.std.proofs.lemmas.List.{get_or-set_other, get_or-take, length-take-le}
+use Rattle.std.proofs.lemmas.Bool.{cases_eq, cases_lt, both_ways, not-true, eq-eqb, ne_eqb}
+use Rattle.clauses.specs.Formulas.{Assignment, value, negation, Satisfies}
+use Rattle.clauses.specs.Stores.{Known, Follows}
+use Rattle.clauses.proofs.Literals.{value_negation, negation_half}
+use Rattle.trail.specs.Trails.{IsTrueUnder, IsFalseUnder, OnTrail, Held, Rooted}
+use Rattle.analysis.specs.declared.Analysis.TheInside.{Inside}
+use Rattle.analysis.specs.Views.{AnalysisView}
+use Rattle.analysis.specs.Keeping.{analysis_view, IsNoted}
+use Rattle.analysis.specs.Marking.{literal_of, Noted, Grown, Never, Differs, Apart, AllTaken, Elsewhere, Absorbed, Gathered}
 
 -- a literal that stands false before any decision
 pub never : (f : List (List ℕ)) (v : ℕ) (values literals marks : List ℕ) (n root place l : ℕ) → Held f v values literals marks n → Rooted marks root → place < root → place < n → get_or literals place 0 ≡ negation l → Never f l
@@ -14,77 +20,25 @@ never f v values literals marks n root place l held rooted low inside e α m t =
     let s : value α (negation l) ≡ true = sym (ap (value α) e) ∙ held.implied α m place inside (λ q h one. absurd (rooted q (omega arith) one)) in
     both_ways (value α l) (not-true (value α l) (sym (value_negation α l) ∙ s)) t
 
--- one variable more
-module _ (v : ℕ) (seen touched : List ℕ) (count x : ℕ) (noted : Noted v seen touched count) (known : x < v) (room : count < length touched) where
-  marked_here : get_or (set seen x 1) x 0 ≡ 1
-  marked_here = get_or-set_same seen x 1 0 (omega (arith, noted.size))
-
-  pub marked_grown : Grown seen (set seen x 1)
-  marked_grown y e = elim (cases_eq y x) [ inl s ↦ ap (λ (z : ℕ). get_or (set seen x 1) z 0) s ∙ marked_here | inr ne ↦ get_or-set_other seen x y 1 0 ne ∙ e ]
-
-  pub marked_new : (y : ℕ) → y ≡ x → get_or (set seen x 1) y 0 ≡ 1
-  marked_new y s = ap (λ (z : ℕ). get_or (set seen x 1) z 0) s ∙ marked_here
-
-  pub marked_noted : Noted v (set seen x 1) (set touched count x) (count + 1)
-  marked_noted =
-      record {
-        size = length-set seen x 1 ∙ noted.size;
-        room = omega (arith, length-set touched count x);
-        small = λ y. elim (cases_eq y x) [ inl s ↦ omega (arith, marked_new y s) | inr ne ↦ omega (arith, get_or-set_other seen x y 1 0 ne, noted.small y) ];
-        listed = λ y e. elim (cases_eq y x) [
-          | inl s ↦ record { at = count; high = omega arith; is = get_or-set_same touched count x 0 room ∙ sym s }
-          | inr ne ↦ older y (noted.listed y (sym (get_or-set_other seen x y 1 0 ne) ∙ e))
-        ];
-        known = λ i h. elim (cases_eq i count) [
-          | inl s ↦ subst (λ (z : ℕ). z < v) (sym (ap (λ (z : ℕ). get_or (set touched count x) z 0) s ∙ get_or-set_same touched count x 0 room)) known
-          | inr ne ↦ subst (λ (z : ℕ). z < v) (sym (get_or-set_other touched count i x 0 ne)) (noted.known i (omega arith))
-        ];
-      }
-    where
-      older : (y : ℕ) → OnTrail touched count y → OnTrail (set touched count x) (count + 1) y
-      older y o = record { at = o.at; high = omega (arith, o.high); is = get_or-set_other touched count o.at x 0 (omega (arith, o.high)) ∙ o.is }
-
--- one less
-pub unmarked_noted : (v : ℕ) (seen touched : List ℕ) (count x : ℕ) → Noted v seen touched count → x < v → Noted v (set seen x 0) touched count
-unmarked_noted v seen touched count x noted known =
-    let here : get_or (set seen x 0) x 0 ≡ 0 = get_or-set_same seen x 0 0 (omega (arith, noted.size)) in
-    record {
-      size = length-set seen x 0 ∙ noted.size;
-      room = noted.room;
-      small = λ y. elim (cases_eq y x) [ inl s ↦ omega (arith, ap (λ (z : ℕ). get_or (set seen x 0) z 0) s, here) | inr ne ↦ omega (arith, get_or-set_other seen x y 0 0 ne, noted.small y) ];
-      listed = λ y e. elim (cases_eq y x) [ inl s ↦ absurd (omega (arith, ap (λ (z : ℕ). get_or (set seen x 0) z 0) s, here)) | inr ne ↦ noted.listed y (sym (get_or-set_other seen x y 0 0 ne) ∙ e) ];
-      known = noted.known;
-    }
-
--- literals are taken one by one
-pub taken_none : (f : List (List ℕ)) (values seen words : List ℕ) (i except : ℕ) → AllTaken f values seen words i i except
-taken_none f values seen words i except p a b = absurd (omega arith)
-
-taken_grown : (f : List (List ℕ)) (values seen seen' : List ℕ) (except l : ℕ) → Grown seen seen' → Taken f values seen except l → Taken f values seen' except l
-taken_grown f values seen seen' except l g t = record { is_false = t.is_false; other = t.other; marked = elim t.marked [ inl e ↦ inl (g (l / 2) e) | inr n ↦ inr n ] }
-
-pub taken_skip : (f : List (List ℕ)) (values seen words : List ℕ) (i e except : ℕ) → get_or words e 0 ≡ except → AllTaken f values seen words i e except → AllTaken f values seen words i (e + 1) except
-taken_skip f values seen words i e except s h p a b ne = elim (cases_eq p e) [ inl q ↦ absurd (ne (ap (λ (z : ℕ). get_or words z 0) q ∙ s)) | inr q ↦ h p a (omega arith) ne ]
-
-pub taken_more : (f : List (List ℕ)) (values seen seen' words : List ℕ) (i e except : ℕ) → Grown seen seen' → Taken f values seen' except (get_or words e 0) → AllTaken f values seen words i e except → AllTaken f values seen' words i (e + 1) except
-taken_more f values seen seen' words i e except g t h p a b ne =
-    elim (cases_eq p e) [ inl q ↦ subst (λ (z : ℕ). Taken f values seen' except (get_or words z 0)) (sym q) t | inr q ↦ taken_grown f values seen seen' except (get_or words p 0) g (h p a (omega arith) ne) ]
-
 -- a clause that every model satisfies, all of whose literals were taken
-pub absorbed : (f : List (List ℕ)) (v : ℕ) (values seen spans words : List ℕ) (count used k except : ℕ) → Sound f v spans words count used → k < count → AllTaken f values seen words (from spans k) (to spans k) except → Absorbed f v values seen except
-absorbed f v values seen spans words count used k except sound h taken α m = here (sound.follows k h α m)
+pub absorbed : (f : List (List ℕ)) (v : ℕ) (values seen clause : List ℕ) (except : ℕ) → Known v clause → Follows f clause → AllTaken f values seen clause except → Absorbed f v values seen except
+absorbed f v values seen clause except known follows taken α m = here (follows α m)
   where
-    by : (t : SomeTrue α words (from spans k) (to spans k)) → (get_or words t.at 0 ≡ except) ⊎ (get_or words t.at 0 ≡ except → ⊥) → ((except / 2 < v) × (value α except ≡ true)) ⊎ Elsewhere values seen except α
-    by t (inl e) = inl (subst (λ (z : ℕ). z / 2 < v) e (sound.stored.known t.at (let i = sound.stored.inside k h in omega (arith, t.high))), sym (ap (value α) e) ∙ t.holds)
+    by : (t : Satisfies α clause) → (get_or clause t.at 0 ≡ except) ⊎ (get_or clause t.at 0 ≡ except → ⊥) → ((except / 2 < v) × (value α except ≡ true)) ⊎ Elsewhere values seen except α
+    by t (inl e) = inl (subst (λ (z : ℕ). z / 2 < v) e (known t.at t.inside), sym (ap (value α) e) ∙ t.holds)
     by t (inr ne) =
-        let x = taken t.at t.low t.high ne in
+        let x = taken t.at t.inside ne in
         elim x.marked [
-          | inl q ↦ inr (record { differs = record { literal = get_or words t.at 0; is_false = x.is_false; marked = q; holds = t.holds }; other = x.other })
+          | inl q ↦ inr (record { differs = record { literal = get_or clause t.at 0; is_false = x.is_false; marked = q; holds = t.holds }; other = x.other })
           | inr n ↦ absurd (n α m t.holds)
         ]
 
-    here : SomeTrue α words (from spans k) (to spans k) → ((except / 2 < v) × (value α except ≡ true)) ⊎ Elsewhere values seen except α
-    here t = by t (cases_eq (get_or words t.at 0) except)
+    here : Satisfies α clause → ((except / 2 < v) × (value α except ≡ true)) ⊎ Elsewhere values seen except α
+    here t = by t (cases_eq (get_or clause t.at 0) except)
+
+pub absorbed_if : (f : List (List ℕ)) (v : ℕ) (values seen clause : List ℕ) (except : ℕ) (r : Option (Unit {0})) → Known v clause → Follows f clause → OnSome r (AllTaken f values seen clause except) → OnSome r (Absorbed f v values seen except)
+absorbed_if f v values seen clause except (Some _) known follows taken = absorbed f v values seen clause except known follows taken
+absorbed_if f v values seen clause except None known follows taken = taken
 
 -- a clause that is false
 pub apart_first : (f : List (List ℕ)) (v : ℕ) (values seen : List ℕ) → v < 2147483647 → Absorbed f v values seen 0xffff_ffff → Apart f values seen
@@ -109,16 +63,37 @@ apart_resolved f v values seen seen' l on g apart a α m = here (apart α m) (ca
         opposite : (d : Differs values seen α) → d.literal / 2 ≡ l / 2 → d.literal ≡ negation l
         opposite d e = let s : get_or values (d.literal / 2) 0 ≡ get_or values (l / 2) 0 = ap (λ (z : ℕ). get_or values z 0) e in omega (arith, d.is_false, on)
 
--- the false literal of each marked variable that was looked at stands in the buffer
-pub record Collected (v : ℕ) (values seen touched buffer : List ℕ) (index size : ℕ) : Type 0 where
-  pub room : size ≤ length buffer
-  pub known : (j : ℕ) → j < size → get_or buffer j 0 / 2 < v
-  pub done : (i : ℕ) → i < index → get_or seen (get_or touched i 0) 0 ≡ 1 → OnTrail buffer size (literal_of values (get_or touched i 0))
+-- a clause with one literal more
+module _ (clause : List ℕ) (l : ℕ) where
+  before : (j : ℕ) → j < length clause → get_or (clause ++ l ∷ []) j 0 ≡ get_or clause j 0
+  before j h = get_or-append clause (l ∷ []) 0 j h
 
-pub collected_skip : (v : ℕ) (values seen touched buffer : List ℕ) (index size : ℕ) → (get_or seen (get_or touched index 0) 0 ≡ 1 → ⊥) → Collected v values seen touched buffer index size → Collected v values seen touched buffer (index + 1) size
-collected_skip v values seen touched buffer index size ne c =
-    record { room = c.room; known = c.known; done = λ i h e. elim (cases_eq i index) [ inl s ↦ absurd (ne (ap (λ (z : ℕ). get_or seen (get_or touched z 0) 0) (sym s) ∙ e)) | inr d ↦ c.done i (omega arith) e ] }
+  here : get_or (clause ++ l ∷ []) (length clause) 0 ≡ l
+  here = get_or-append_seam clause l [] 0
 
+  long : length (clause ++ l ∷ []) ≡ length clause + 1
+  long = length-append clause (l ∷ [])
+
+  pub known_more : (v : ℕ) → Known v clause → l / 2 < v → Known v (clause ++ l ∷ [])
+  known_more v known small j h =
+      elim (cases_lt j (length clause)) [
+        | inl b ↦ subst (λ (x : ℕ). x / 2 < v) (sym (before j b)) (known j b)
+        | inr b ↦ let e : j ≡ length clause = omega (arith, long) in subst (λ (x : ℕ). x / 2 < v) (sym (ap (λ (y : ℕ). get_or (clause ++ l ∷ []) y 0) e ∙ here)) small
+      ]
+
+  pub satisfies_more : (α : Assignment) → Satisfies α clause → Satisfies α (clause ++ l ∷ [])
+  satisfies_more α t = record { at = t.at; inside = omega (arith, t.inside, long); holds = ap (value α) (before t.at t.inside) ∙ t.holds }
+
+  pub satisfies_last : (α : Assignment) → value α l ≡ true → Satisfies α (clause ++ l ∷ [])
+  satisfies_last α t = record { at = length clause; inside = omega (arith, long); holds = ap (value α) here ∙ t }
+
+  pub stands_more : (x : ℕ) → OnTrail clause (length clause) x → OnTrail (clause ++ l ∷ []) (length (clause ++ l ∷ [])) x
+  stands_more x o = record { at = o.at; high = omega (arith, o.high, long); is = before o.at o.high ∙ o.is }
+
+  pub stands_last : OnTrail (clause ++ l ∷ []) (length (clause ++ l ∷ [])) l
+  stands_last = record { at = length clause; high = omega (arith, long); is = here }
+
+-- the literal of a variable that is false
 pub half : (values : List ℕ) (x : ℕ) → literal_of values x / 2 ≡ x
 half values x = by (eqb (get_or values x 0) 1)
   where
@@ -126,24 +101,34 @@ half values x = by (eqb (get_or values x 0) 1)
     by true = omega arith
     by false = omega arith
 
-pub collected_more : (v : ℕ) (values seen touched buffer : List ℕ) (index size l : ℕ) → l ≡ literal_of values (get_or touched index 0) → get_or touched index 0 < v → size < length buffer → Collected v values seen touched buffer index size → Collected v values seen touched (set buffer size l) (index + 1) (size + 1)
-collected_more v values seen touched buffer index size l e known room c =
-    let new : get_or (set buffer size l) size 0 ≡ l = get_or-set_same buffer size l 0 room in
-    let old : (j : ℕ) → (j ≡ size → ⊥) → get_or (set buffer size l) j 0 ≡ get_or buffer j 0 = λ j ne. get_or-set_other buffer size j l 0 ne in
-    record {
-      room = omega (arith, length-set buffer size l);
-      known = λ j h. elim (cases_eq j size) [
-        | inl s ↦ subst (λ (z : ℕ). z / 2 < v) (sym (ap (λ (z : ℕ). get_or (set buffer size l) z 0) s ∙ new ∙ e)) (subst (λ (z : ℕ). z < v) (sym (half values (get_or touched index 0))) known)
-        | inr ne ↦ subst (λ (z : ℕ). z / 2 < v) (sym (old j ne)) (c.known j (omega arith))
-      ];
-      done = λ i h t. elim (cases_eq i index) [
-        | inl s ↦ record { at = size; high = omega arith; is = new ∙ e ∙ ap (λ (z : ℕ). literal_of values (get_or touched z 0)) (sym s) }
-        | inr ne ↦ older i (c.done i (omega arith) t)
-      ];
-    }
-  where
-    older : (i : ℕ) → OnTrail buffer size (literal_of values (get_or touched i 0)) → OnTrail (set buffer size l) (size + 1) (literal_of values (get_or touched i 0))
-    older i o = record { at = o.at; high = omega (arith, o.high); is = get_or-set_other buffer size o.at l 0 (omega (arith, o.high)) ∙ o.is }
+-- the false literal of each marked variable, one by one
+module _ (v : ℕ) (values seen variables clause : List ℕ) (x : ℕ) (g : Gathered v values seen variables clause) where
+  earlier : (i : ℕ) → i < length (variables ++ x ∷ []) → (i < length variables) ⊎ (get_or (variables ++ x ∷ []) i 0 ≡ x)
+  earlier i h =
+      elim (cases_lt i (length variables)) [
+        | inl b ↦ inl b
+        | inr b ↦ let e : i ≡ length variables = omega (arith, long variables x) in inr (ap (λ (y : ℕ). get_or (variables ++ x ∷ []) y 0) e ∙ here variables x)
+      ]
+
+  pub gathered_skip : (get_or seen x 0 ≡ 1 → ⊥) → Gathered v values seen (variables ++ x ∷ []) clause
+  gathered_skip ne =
+      record {
+        known = g.known;
+        each = λ i h e. elim (earlier i h) [
+          | inl b ↦ subst (λ (y : ℕ). OnTrail clause (length clause) (literal_of values y)) (sym (before variables x i b)) (g.each i b (sym (ap (λ (y : ℕ). get_or seen y 0) (before variables x i b)) ∙ e))
+          | inr s ↦ absurd (ne (sym (ap (λ (y : ℕ). get_or seen y 0) s) ∙ e))
+        ];
+      }
+
+  pub gathered_more : (l : ℕ) → l ≡ literal_of values x → x < v → Gathered v values seen (variables ++ x ∷ []) (clause ++ l ∷ [])
+  gathered_more l is small =
+      record {
+        known = known_more clause l v g.known (subst (λ (y : ℕ). y < v) (sym (ap (λ (y : ℕ). y / 2) is ∙ half values x)) small);
+        each = λ i h e. elim (earlier i h) [
+          | inl b ↦ subst (λ (y : ℕ). OnTrail (clause ++ l ∷ []) (length (clause ++ l ∷ [])) (literal_of values y)) (sym (before variables x i b)) (stands_more clause l _ (g.each i b (sym (ap (λ (y : ℕ). get_or seen y 0) (before variables x i b)) ∙ e)))
+          | inr s ↦ subst (λ (y : ℕ). OnTrail (clause ++ l ∷ []) (length (clause ++ l ∷ [])) y) (is ∙ sym (ap (literal_of values) s)) (stands_last clause l)
+        ];
+      }
 
 false_is : (values : List ℕ) (l : ℕ) → IsFalseUnder values l → literal_of values (l / 2) ≡ l
 false_is values l e =
@@ -152,32 +137,26 @@ false_is values l e =
       | inr p ↦ ap (λ (b : Bool). cond b (2 * (l / 2) + 1) (2 * (l / 2))) (eq-eqb (get_or values (l / 2) 0) 1 (omega arith)) ∙ omega arith
     ]
 
-pub collected_all : (f : List (List ℕ)) (v : ℕ) (values seen touched buffer : List ℕ) (count index size : ℕ) → Noted v seen touched count → count ≤ index → Apart f values seen → Collected v values seen touched buffer index size → (α : Assignment) → Models f α → SomeTrue α buffer 0 size
-collected_all f v values seen touched buffer count index size noted le apart c α m =
+-- where models differ at a marked variable, they satisfy the clause
+pub gathered_all : (f : List (List ℕ)) (v w : ℕ) (values seen touched clause : List ℕ) (count : ℕ) → Noted w seen touched count → Apart f values seen → Gathered v values seen (take count touched) clause → Follows f clause
+gathered_all f v w values seen touched clause count noted apart g α m =
     let d = apart α m in
     let x : ℕ = d.literal / 2 in
     let o = noted.listed x d.marked in
-    let b = c.done o.at (omega (arith, o.high)) (ap (λ (z : ℕ). get_or seen z 0) o.is ∙ d.marked) in
-    let e : get_or buffer b.at 0 ≡ d.literal = b.is ∙ ap (literal_of values) o.is ∙ false_is values d.literal d.is_false in
-    record { at = b.at; low = omega arith; high = b.high; holds = ap (value α) e ∙ d.holds }
+    let long : length (take count touched) ≡ count = length-take-le count touched noted.room in
+    let there : get_or (take count touched) o.at 0 ≡ x = get_or-take count touched o.at 0 o.high ∙ o.is in
+    let b = g.each o.at (omega (arith, o.high)) (ap (λ (z : ℕ). get_or seen z 0) there ∙ d.marked) in
+    let e : get_or clause b.at 0 ≡ d.literal = b.is ∙ ap (literal_of values) there ∙ false_is values d.literal d.is_false in
+    record { at = b.at; inside = b.high; holds = ap (value α) e ∙ d.holds }
 
--- unmarked one by one
-pub cleared_more : (seen touched : List ℕ) (index : ℕ) → get_or touched index 0 < length seen → ((i : ℕ) → i < index → get_or seen (get_or touched i 0) 0 ≡ 0) → (i : ℕ) → i < index + 1 → get_or (set seen (get_or touched index 0) 0) (get_or touched i 0) 0 ≡ 0
-cleared_more seen touched index known h i l =
-    elim (cases_eq (get_or touched i 0) (get_or touched index 0)) [
-      | inl s ↦ ap (λ (z : ℕ). get_or (set seen (get_or touched index 0) 0) z 0) s ∙ get_or-set_same seen (get_or touched index 0) 0 0 known
-      | inr ne ↦ get_or-set_other seen (get_or touched index 0) (get_or touched i 0) 0 0 ne ∙ h i (before ne)
-    ]
-  where
-    before : (get_or touched i 0 ≡ get_or touched index 0 → ⊥) → i < index
-    before ne = elim (cases_eq i index) [ inl s ↦ absurd (ne (ap (λ (z : ℕ). get_or touched z 0) s)) | inr d ↦ omega arith ]
+-- what was met is a variable
+pub met_small : (v : ℕ) (seen touched : List ℕ) (count index : ℕ) → Noted v seen touched count → index < length (take count touched) → get_or (take count touched) index 0 < v
+met_small v seen touched count index noted inside =
+    let h : index < count = omega (arith, inside, length-take-le count touched noted.room) in
+    subst (λ (x : ℕ). x < v) (sym (get_or-take count touched index 0 h)) (noted.known index h)
 
-pub cleared_all : (v : ℕ) (seen touched : List ℕ) (count : ℕ) → Noted v seen touched count → ((i : ℕ) → i < count → get_or seen (get_or touched i 0) 0 ≡ 0) → (x : ℕ) → get_or seen x 0 ≡ 0
-cleared_all v seen touched count noted h x =
-    elim (cases_eq (get_or seen x 0) 1) [
-      | inl e ↦ let o = noted.listed x e in absurd (let z : get_or seen x 0 ≡ 0 = sym (ap (λ (y : ℕ). get_or seen y 0) o.is) ∙ h o.at o.high in omega arith)
-      | inr ne ↦ let s = noted.small x in omega arith
-    ]
-
-pub noted_none : (v : ℕ) (seen touched : List ℕ) (count : ℕ) → Noted v seen touched count → ((x : ℕ) → get_or seen x 0 ≡ 0) → Noted v seen touched 0
-noted_none v seen touched count noted z = record { size = noted.size; room = omega arith; small = noted.small; listed = λ x e. absurd (omega (arith, z x)); known = λ i h. absurd (omega arith) }
+-- a variable that was met, by the negation of its false literal
+pub met_half : (a : Inside) (b : AnalysisView) (v : ℕ) (values : List ℕ) (index l m : ℕ) → analysis_view a ≡ b → IsNoted a → length b.seen ≡ v → index < a.count → l ≡ literal_of values (get_or a.touched.now index 0) → m ≡ negation l → m / 2 < v
+met_half a b v values index l m same noted size inside is turned =
+    let e : m / 2 ≡ get_or a.touched.now index 0 = ap (λ (x : ℕ). x / 2) turned ∙ negation_half l ∙ ap (λ (x : ℕ). x / 2) is ∙ half values (get_or a.touched.now index 0) in
+    omega (arith, e, ap (λ (x : AnalysisView). length x.seen) same, noted.noted.known index inside)

@@ -1,6 +1,7 @@
 -- Conflict analysis: variables are marked such that every model differs from the values at a marked one.
 use Rattle.std.specs.Prelude.{◌≡◌, ℕ, ◌+◌, ◌*◌, ◌/◌, ◌<◌, ◌≤◌, true, cond, ◌⊎◌, List, length, ◌==◌, ◌≢◌, slice_index, slice_index_or}
 use Rattle.clauses.specs.Formulas.{Assignment, value, Models}
+use Rattle.clauses.specs.Stores.{Known}
 use Rattle.trail.specs.Trails.{IsFalseUnder, OnTrail}
 use Rattle.analysis.specs.Views.{AnalysisView}
 use Rattle.propagation.specs.Views.{SearchView, variables_of, formula_of}
@@ -60,3 +61,8 @@ Absorbed f v values seen except = (α : Assignment) → Models f α → ((except
 -- the same of what the code sees
 abbrev pub ApartA : SearchView → AnalysisView → Type 0
 ApartA s a = Apart (formula_of s) s.trail.values a.seen
+
+-- a clause of literals of v variables, with the false one of each variable of a list that is marked
+pub record Gathered (v : ℕ) (values seen variables clause : List ℕ) : Type 0 where
+  pub known : Known v clause
+  pub each : (i : ℕ) → i < length variables → slice_index seen (slice_index variables i) ≡ 1 → OnTrail clause (length clause) (literal_of values (slice_index variables i))

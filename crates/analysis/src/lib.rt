@@ -4,12 +4,13 @@
 // reasons only steer: each step sees what it needs.
 #![tactic(auto)]
 
-ghost use Rattle.std.specs.Prelude.{◌≡◌, ℕ, ◌+◌, ◌/◌, ◌<◌, ◌≤◌, true, ◌⊎◌, length, IfSome, OnSome, take, All, IsTrue, slice_index};
+ghost use Rattle.std.specs.Prelude.{◌≡◌, ℕ, ◌+◌, ◌/◌, ◌<◌, ◌≤◌, true, ◌⊎◌, [], length, IfSome, OnSome, take, All, IsTrue, slice_index};
 ghost use Rattle.clauses.specs.Stores.{Known, Follows};
 ghost use Rattle.trail.specs.Trails.{IsTrueUnder, IsFalseUnder, Jammed};
+ghost use Rattle.trail.specs.Views.{variables_of as variables_on};
 ghost use Rattle.propagation.specs.Views.{variables_of, formula_of};
 ghost use Rattle.analysis.specs.Views.{met_of, clause_of};
-ghost use Rattle.analysis.specs.Marking.{literal_of, Fits, Grown, Never, AllTaken, Absorbed, ApartA};
+ghost use Rattle.analysis.specs.Marking.{literal_of, Noted, Fits, Grown, Never, AllTaken, Absorbed, ApartA, Gathered};
 ghost use Rattle.analysis.specs.Refusing.{RefusedIf};
 
 use clauses::negated;
@@ -49,16 +50,19 @@ fn is_never(search: &Search, literal: u32) -> bool
     requires { literal / 2 < variables_of search.now }
     ensures { result ≡ true → Never (formula_of search.now) literal }
 {
+    search.keeps();
     let trail = search.trail();
+    trail.keeps();
     let place = search.causes().place(literal / 2) as usize;
     place < trail.first_decision() && trail.literal(place) == negated(literal)
 }
 
 // The literal of a variable that is false under the values.
 fn false_literal(trail: &Trail, variable: u32) -> u32
-    requires { variable < length trail.now.values }
+    requires { variable < variables_on trail.now }
     ensures { result ≡ literal_of trail.now.values variable }
 {
+    trail.keeps();
     if trail.holds(2 * variable) {
         2 * variable + 1
     } else {
@@ -69,20 +73,49 @@ fn false_literal(trail: &Trail, variable: u32) -> u32
 // Takes marks away.
 fn unmark(seen: &mut [u32], variables: &[u32])
     requires { All (λ x. x < length seen.old) variables.now }
+    ensures size { length seen.new ≡ length seen.old }
+    ensures gone { All (λ x. slice_index seen.new x ≡ 0) variables.now }
+    ensures none { (x : ℕ) → slice_index seen.old x ≡ 0 → slice_index seen.new x ≡ 0 }
 {
     for variable in variables {
         seen[*variable as usize] = 0;
     }
 }
 
+// Writes the false literals of those of the first so many variables that are marked. How many there
+// are; None where there is no room.
+fn gather(
+    trail: &Trail,
+    seen: &[u32],
+    touched: &[u32],
+    count: usize,
+    buffer: &mut [u32],
+) -> Option<usize>
+    requires { Noted (variables_on trail.now) seen.now touched.now count }
+    ensures size { length buffer.new ≡ length buffer.old }
+    ensures room { IfSome result (λ size. size ≤ length buffer.new) }
+    ensures gathered { IfSome result (λ size. Gathered (variables_on trail.now) trail.now.values seen.now (take count touched.now) (take size buffer.new)) }
+{
+    let mut size = 0;
+    for variable in &touched[..count] {
+        if seen[*variable as usize] != 1 {
+            continue;
+        }
+        if size >= buffer.len() {
+            return None;
+        }
+        buffer[size] = false_literal(trail, *variable);
+        size += 1;
+    }
+    Some(size)
+}
+
 impl<'a> Analysis<'a> {
     // Nothing is marked yet. There is a mark for each variable.
-    pub fn new(
-        seen: &'a mut [u32],
-        touched: &'a mut [u32],
-        buffer: &'a mut [u32],
-    ) -> Analysis<'a>
-        ensures { length result.seen ≡ length seen.old }
+    pub fn new(seen: &'a mut [u32], touched: &'a mut [u32], buffer: &'a mut [u32]) -> Analysis<'a>
+        ensures size { length result.seen ≡ length seen.old }
+        ensures none { (x : ℕ) → slice_index result.seen x ≡ 0 }
+        ensures met { met_of result ≡ [] }
     {
         seen.fill(0);
         Analysis {
@@ -159,7 +192,13 @@ impl Analysis<'_> {
     }
 
     // The same of a clause, by its number.
-    fn absorb_clause(&mut self, search: &Search, level: u32, number: usize, except: u32) -> Option<()>
+    fn absorb_clause(
+        &mut self,
+        search: &Search,
+        level: u32,
+        number: usize,
+        except: u32,
+    ) -> Option<()>
         requires fits { Fits self.old search.now }
         ensures size { length self.new.seen ≡ length self.old.seen }
         ensures grown { Grown self.old.seen self.new.seen }
@@ -190,6 +229,7 @@ impl Analysis<'_> {
         ensures size { length self.new.seen ≡ length self.old.seen }
         ensures apart { IfSome result (λ place. ApartA search.now self.new × (place < search.now.trail.len)) }
     {
+        search.keeps();
         self.open = 0;
         self.absorb_clause(search, level, conflict as usize, NO_LITERAL)?;
         let trail = search.trail();
@@ -267,18 +307,11 @@ impl Analysis<'_> {
         ensures follows { OnSome result (Follows (formula_of search.now) (clause_of self.new)) }
     {
         self.size = 0;
-        let trail = search.trail();
-        for index in 0..self.count {
-            let variable = self.touched[index];
-            if self.seen[variable as usize] != 1 {
-                continue;
-            }
-            if self.size >= self.buffer.len() {
-                return None;
-            }
-            self.buffer[self.size] = false_literal(trail, variable);
-            self.size += 1;
-        }
+        let count = self.count;
+        let seen = &mut *self.seen;
+        let touched = &mut *self.touched;
+        let buffer = &mut *self.buffer;
+        self.size = gather(search.trail(), seen, touched, count, buffer)?;
         Some(())
     }
 
@@ -312,7 +345,10 @@ impl Analysis<'_> {
         ensures size { length self.new.seen ≡ length self.old.seen }
         ensures none { (x : ℕ) → slice_index self.new.seen x ≡ 0 }
     {
-        unmark(self.seen, &self.touched[..self.count]);
+        let count = self.count;
+        let seen = &mut *self.seen;
+        let touched = &mut *self.touched;
+        unmark(seen, &touched[..count]);
         self.count = 0;
     }
 }

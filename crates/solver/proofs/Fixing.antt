@@ -34,12 +34,12 @@ module _ (s t : TrailView) (l : ℕ) (a : Added (l ∷ []) s.units t.units) (pro
   new_true α m =
       let n : ℕ = length s.units.formula in
       let e : clause_at t.units.formula n ≡ l ∷ [] = ap (λ g. clause_at g n) a.formula ∙ get_or-append_seam s.units.formula (l ∷ []) [] [] in
-      unit_true α l (subst (Satisfies α) e (own_second t.problem.formula t.units.formula n (omega (arith, ap length a.formula, length-append s.units.formula (l ∷ []))) α m))
+      unit_true α l (subst (Satisfies α) e (own_second t.problem.formula t.units.formula n (omega (arith, ap length a.formula, length-append s.units.formula ((l ∷ []) ∷ []))) α m))
 
   -- and every one of these is a model of what there was
   pub old_models : (α : Assignment) → Models (formula_of t) α → Models (formula_of s) α
   old_models α m =
-      models_first (formula_of s) ((l ∷ [])  ∷ []) α
+      models_first (formula_of s) ((l ∷ []) ∷ []) α
       (subst (λ (f : List (List ℕ)). Models f α) (ap (λ p. p.formula ++ t.units.formula) problem ∙ ap (λ u. s.problem.formula ++ u) a.formula ∙ sym (append_assoc s.problem.formula s.units.formula ((l ∷ []) ∷ []))) m)
 
   -- a literal that is false before any decision cannot be fixed

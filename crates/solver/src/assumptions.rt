@@ -2,13 +2,12 @@
 // decision is an assumption or comes after all of them, and where one is false, no model has them all.
 ghost use Rattle.std.specs.Prelude.{◌≡◌, ℕ, ◌/◌, ◌<◌, ◌≤◌, length, slice_index};
 ghost use Rattle.trail.specs.Views.{variables_of};
-ghost use Rattle.trail.specs.Trails.{AssumedT};
+ghost use Rattle.trail.specs.Trails.{AssumedT, Good};
 ghost use Rattle.solver.specs.Assumptions.{KnownAll, WantedSays, LiteralSays, NextDecision, DecidedMore, StepSays};
 
 use crate::values::{next_variable, open_variable};
 use conflicts::Learner;
 use propagation::Search;
-use trail::Trail;
 
 // The first of the assumptions in force that is not true: one is false, one has no value yet, or there is none such.
 #[derive(Clone, Copy)]
@@ -33,12 +32,15 @@ pub enum Guide {
     Sequence,
 }
 
-fn next_assumption(trail: &Trail, assumptions: &[u32]) -> Wanted
-    requires { KnownAll (variables_of trail.now) assumptions.now }
-    ensures { WantedSays (variables_of trail.now) trail.now.values assumptions.now (length assumptions.now) result }
+fn next_assumption(learner: &Learner, assumptions: &[u32], count: usize) -> Wanted
+    requires known { KnownAll (variables_of learner.now.search.trail) assumptions.now }
+    requires count { count ≤ length assumptions.now }
+    ensures says { WantedSays (variables_of learner.now.search.trail) learner.now.search.trail.values assumptions.now count result }
+    ensures good { Good learner.now.search.trail }
 {
+    let trail = learner.search.trail();
     trail.keeps();
-    for literal in assumptions {
+    for literal in &assumptions[..count] {
         if trail.fails(*literal) {
             return Wanted::Refuted;
         }
@@ -70,35 +72,42 @@ fn next_literal(learner: &mut Learner, guide: Guide) -> Option<u32>
 }
 
 // Decides a literal that is an assumption, or comes after all of them.
-fn put_decision(search: &mut Search, assumptions: &[u32], literal: u32)
-    requires assumed { AssumedT assumptions.now (length assumptions.now) search.old.trail }
+fn put_decision(search: &mut Search, assumptions: &[u32], count: usize, literal: u32)
+    requires assumed { AssumedT assumptions.now count search.old.trail }
     requires known { literal / 2 < variables_of search.old.trail }
     requires free { slice_index search.old.trail.values (literal / 2) ≡ 0 }
-    requires order { NextDecision assumptions.now (length assumptions.now) search.old.trail.literals search.old.trail.len literal }
-    ensures { DecidedMore assumptions.now (length assumptions.now) search.old.trail search.new.trail }
+    requires order { NextDecision assumptions.now count search.old.trail.literals search.old.trail.len literal }
+    ensures { DecidedMore assumptions.now count search.old.trail search.new.trail }
 {
     search.trail().keeps();
     search.decide(literal);
 }
 
-// Decides on, with assumptions in force.
-pub fn decide_on(learner: &mut Learner, assumptions: &[u32], guide: Guide) -> Step
-    requires known { KnownAll (variables_of learner.old.search.trail) assumptions.now }
-    requires assumed { AssumedT assumptions.now (length assumptions.now) learner.old.search.trail }
-    ensures { StepSays assumptions.now (length assumptions.now) learner.old.search.trail learner.new.search.trail result }
+// The same of a learner.
+fn put_on(learner: &mut Learner, assumptions: &[u32], count: usize, literal: u32) -> Step
+    requires assumed { AssumedT assumptions.now count learner.old.search.trail }
+    requires known { literal / 2 < variables_of learner.old.search.trail }
+    requires free { slice_index learner.old.search.trail.values (literal / 2) ≡ 0 }
+    requires order { NextDecision assumptions.now count learner.old.search.trail.literals learner.old.search.trail.len literal }
+    ensures { StepSays assumptions.now count learner.old.search.trail learner.new.search.trail result }
 {
-    match next_assumption(learner.search.trail(), assumptions) {
+    put_decision(&mut learner.search, assumptions, count, literal);
+    Step::Decided
+}
+
+// Decides on, with the first so many assumptions in force.
+pub fn decide_on(learner: &mut Learner, assumptions: &[u32], count: usize, guide: Guide) -> Step
+    requires known { KnownAll (variables_of learner.old.search.trail) assumptions.now }
+    requires count { count ≤ length assumptions.now }
+    requires assumed { AssumedT assumptions.now count learner.old.search.trail }
+    ensures { StepSays assumptions.now count learner.old.search.trail learner.new.search.trail result }
+{
+    match next_assumption(learner, assumptions, count) {
         Wanted::Refuted => Step::Refuted,
-        Wanted::Open(literal) => {
-            put_decision(&mut learner.search, assumptions, literal);
-            Step::Decided
-        }
+        Wanted::Open(literal) => put_on(learner, assumptions, count, literal),
         Wanted::Settled => match next_literal(learner, guide) {
             None => Step::Complete,
-            Some(literal) => {
-                put_decision(&mut learner.search, assumptions, literal);
-                Step::Decided
-            }
+            Some(literal) => put_on(learner, assumptions, count, literal),
         },
     }
 }

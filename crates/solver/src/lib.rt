@@ -57,7 +57,8 @@ fn start_again(learner: &mut Learner, pace: &mut Pace, full: bool) -> usize
 // Looks at a clause of the problem for the first time, given by its number: it implies a literal or is
 // watched from now on.
 fn enter(search: &mut Search, number: u32) -> Result<(), NoModel>
-    requires { number < length search.old.trail.problem.formula }
+    requires number { number < length search.old.trail.problem.formula }
+    requires low { number < 4294967295 }
     ensures clauses { SameClauses search.old.trail search.new.trail }
     ensures none { OnErr result (NoneModels (formula_of search.old.trail)) }
 {
@@ -75,6 +76,109 @@ fn enter(search: &mut Search, number: u32) -> Result<(), NoModel>
     Ok(())
 }
 
+// Looks at all clauses of the problem.
+fn enter_all(search: &mut Search) -> Result<(), NoModel>
+    ensures clauses { SameClauses search.old.trail search.new.trail }
+    ensures none { OnErr result (NoneModels (formula_of search.old.trail)) }
+{
+    let base = search.trail().problem().len();
+    for number in 0..base.min(0x4000_0000) {
+        enter(search, number as u32)?;
+    }
+    Ok(())
+}
+
+// Fixes a literal for good, where nothing is decided.
+fn fix_unit(search: &mut Search, literal: u32) -> Result<(), NoModel>
+    requires rooted { Rooted search.old.trail.marks search.old.trail.len }
+    requires known { literal / 2 < variables_of search.old.trail }
+    requires fits { Fits search.old.trail.units 1 }
+    ensures added { Added (literal ∷ []) search.old.trail.units search.new.trail.units }
+    ensures problem { search.new.trail.problem ≡ search.old.trail.problem }
+    ensures none { OnErr result (NoneModels (formula_of search.new.trail)) }
+{
+    search.trail().keeps();
+    let _ = search.add(literal);
+    if search.trail().fails(literal) {
+        return Err(NoModel);
+    }
+    if search.trail().holds(literal) {
+        return Ok(());
+    }
+    search.imply(literal, None, 0);
+    Ok(())
+}
+
+// The search under assumptions, which `solve_under` promises.
+fn seek(
+    learner: &mut Learner,
+    pace: &mut Pace,
+    assumptions: &[u32],
+    firm: usize,
+    guide: Guide,
+) -> bool
+    requires known { KnownAll (variables_of learner.old.search.trail) assumptions.now }
+    requires firm { firm ≤ length assumptions.now }
+    ensures clauses { SameClauses learner.old.search.trail learner.new.search.trail }
+    ensures model { result ≡ true → Models (formula_of learner.new.search.trail) (assignment learner.new.search.trail.values) }
+    ensures holds { result ≡ true → HoldsAll (assignment learner.new.search.trail.values) assumptions.now firm }
+    ensures wished { result ≡ true → HoldsAll (assignment learner.new.search.trail.values) assumptions.now (length assumptions.now) ⊎ NoneWith (formula_of learner.new.search.trail) assumptions.now (length assumptions.now) }
+    ensures none { result ≡ false → NoneWith (formula_of learner.new.search.trail) assumptions.now firm }
+{
+    let root = learner.begin_anew();
+    let mut start = pace.start.min(root);
+    let mut level: u32 = 0;
+    let mut restarts: u32 = u32::MAX;
+    let mut force = assumptions.len();
+    loop {
+        if let Some(conflict) = learner.search.propagate(start, level) {
+            if learner.learn(level, conflict).is_err() {
+                return false;
+            }
+            pace.note_conflict();
+            level = learner.search.level_before();
+            start = learner.search.trail().len().saturating_sub(1);
+            continue;
+        }
+        let full = pace.is_full(learner.search.learned(), learner.counters.unkept);
+        if (full | pace.is_over()) && restarts > 0 {
+            restarts -= 1;
+            start = start_again(learner, pace, full);
+            level = 0;
+            continue;
+        }
+        match decide_on(learner, assumptions, force, guide) {
+            Step::Refuted => {
+                if force == firm {
+                    pace.start = learner.search.trail().len();
+                    return false;
+                }
+                force = firm;
+                start = learner.begin_anew();
+                level = 0;
+                continue;
+            }
+            Step::Decided => {
+                learner.counters.decisions = learner.counters.decisions.saturating_add(1);
+                start = learner.search.trail().len().saturating_sub(1);
+                level = learner.search.trail().len() as u32;
+                continue;
+            }
+            Step::Complete => {}
+        }
+        let found = is_model(learner.search.trail());
+        if found {
+            pace.start = learner.search.trail().len();
+            return true;
+        }
+        if learner.turn_round().is_err() {
+            return false;
+        }
+        level = learner.search.level_before();
+        start = learner.search.trail().len().saturating_sub(1);
+    }
+}
+
 impl Solver<'_> {
     // Looks at the clauses of the problem: what they imply without a decision is put on the trail, and
     // they are watched.
@@ -83,11 +187,7 @@ impl Solver<'_> {
         ensures none { OnErr result (NoneModels (formula_of self.old.learner.search.trail)) }
     {
         let learner = &mut self.learner;
-        let base = learner.search.trail().problem().len();
-        for number in 0..base.min(0x4000_0000) {
-            enter(&mut learner.search, number as u32)?;
-        }
-        Ok(())
+        enter_all(&mut learner.search)
     }
 
     // Fixes a literal for good: the clause of it alone joins the clauses, and it holds without a decision.
@@ -100,16 +200,7 @@ impl Solver<'_> {
     {
         let learner = &mut self.learner;
         let root = learner.begin_anew();
-        let search = &mut learner.search;
-        search.trail().keeps();
-        let _ = search.add(literal);
-        if search.trail().fails(literal) {
-            return Err(NoModel);
-        }
-        if search.trail().holds(literal) {
-            return Ok(());
-        }
-        search.imply(literal, None, 0);
+        fix_unit(&mut learner.search, literal)?;
         self.pace.start = self.pace.start.min(root);
         Ok(())
     }
@@ -126,60 +217,7 @@ impl Solver<'_> {
         ensures wished { result ≡ true → HoldsAll (assignment self.new.learner.search.trail.values) assumptions.now (length assumptions.now) ⊎ NoneWith (formula_of self.new.learner.search.trail) assumptions.now (length assumptions.now) }
         ensures none { result ≡ false → NoneWith (formula_of self.new.learner.search.trail) assumptions.now firm }
     {
-        let learner = &mut self.learner;
-        let pace = &mut self.pace;
-        let root = learner.begin_anew();
-        let mut start = pace.start.min(root);
-        let mut level: u32 = 0;
-        let mut restarts: u32 = u32::MAX;
-        let mut force = assumptions.len();
-        loop {
-            if let Some(conflict) = learner.search.propagate(start, level) {
-                if learner.learn(level, conflict).is_err() {
-                    return false;
-                }
-                pace.note_conflict();
-                level = learner.search.level_before();
-                start = learner.search.trail().len().saturating_sub(1);
-                continue;
-            }
-            let full = pace.is_full(learner.search.learned(), learner.counters.unkept);
-            if (full | pace.is_over()) && restarts > 0 {
-                restarts -= 1;
-                start = start_again(learner, pace, full);
-                level = 0;
-                continue;
-            }
-            match decide_on(learner, &assumptions[..force], guide) {
-                Step::Refuted => {
-                    if force == firm {
-                        pace.start = learner.search.trail().len();
-                        return false;
-                    }
-                    force = firm;
-                    start = learner.begin_anew();
-                    level = 0;
-                    continue;
-                }
-                Step::Decided => {
-                    learner.counters.decisions = learner.counters.decisions.saturating_add(1);
-                    start = learner.search.trail().len().saturating_sub(1);
-                    level = learner.search.trail().len() as u32;
-                    continue;
-                }
-                Step::Complete => {}
-            }
-            let found = is_model(learner.search.trail());
-            if found {
-                pace.start = learner.search.trail().len();
-                return true;
-            }
-            if learner.turn_round().is_err() {
-                return false;
-            }
-            level = learner.search.level_before();
-            start = learner.search.trail().len().saturating_sub(1);
-        }
+        seek(&mut self.learner, &mut self.pace, assumptions, firm, guide)
     }
 
     // Writes the values of the trail.

@@ -44,14 +44,21 @@ fn watch(search: &mut Search, number: u32)
     }
 }
 
+// Has all clauses watched, as far as their numbers fit.
+fn watch_all(search: &mut Search)
+    ensures { search.new ≡ search.old }
+{
+    let base = search.trail().problem().len();
+    let count = base.saturating_add(search.learned());
+    for number in 0..count.min(0x7fff_ffff) {
+        watch(search, number as u32);
+    }
+}
+
 // Forgets the worse half of what was learned.
 pub fn reduce(learner: &mut Learner)
     ensures { learner.new.search.trail ≡ learner.old.search.trail }
 {
     forget(&mut learner.search, &mut learner.uses);
-    let base = learner.search.trail().problem().len();
-    let count = base.saturating_add(learner.search.learned());
-    for number in 0..count.min(0x7fff_ffff) {
-        watch(&mut learner.search, number as u32);
-    }
+    watch_all(&mut learner.search);
 }

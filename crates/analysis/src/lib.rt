@@ -255,16 +255,11 @@ impl Analysis<'_> {
         requires fits { Fits self.now search.now }
         requires known { Known (variables_of search.now) clause.now }
     {
-        for literal in clause {
-            let variable = *literal / 2;
-            if *literal != except
-                && self.seen[variable as usize] != 1
-                && search.causes().level(variable) != 0
-            {
-                return false;
-            }
-        }
-        true
+        clause.iter().all(|literal| {
+            *literal == except
+                || self.seen[(*literal / 2) as usize] == 1
+                || search.causes().level(*literal / 2) == 0
+        })
     }
 
     // Unmarks variables that the other marked ones imply; None where the marks are of no use any more.

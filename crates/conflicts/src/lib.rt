@@ -8,8 +8,8 @@ ghost use Rattle.std.specs.Option.{ForSome};
 ghost use Rattle.clauses.specs.Stores.{Known, Follows};
 ghost use Rattle.trail.specs.Views.{variables_of as variables_on};
 ghost use Rattle.trail.specs.Trails.{Jammed, Later, Falls, NoneModels, Rooted};
-ghost use Rattle.propagation.specs.Views.{variables_of, formula_of};
-ghost use Rattle.propagation.specs.Searching.{Same};
+ghost use Rattle.propagation.specs.Views.{variables_of, formula_of, numbers_of};
+ghost use Rattle.propagation.specs.Searching.{Same, Onward};
 ghost use Rattle.analysis.specs.Views.{clause_of};
 ghost use Rattle.analysis.specs.Marking.{Fits};
 ghost use Rattle.learning.specs.Turning.{Taught};
@@ -147,7 +147,43 @@ pub fn flip_last(search: &mut Search) -> Result<(), NoModel>
     Ok(())
 }
 
+impl<'a> Learner<'a> {
+    pub fn search(&self) -> &Search<'a>
+        ensures { result.now ≡ self.now.search }
+    {
+        &self.search
+    }
+}
+
 impl Learner<'_> {
+    // Has everything implied that the literals from a place of the trail on imply. The number of a clause
+    // that is false, if there is one.
+    pub fn propagate(&mut self, start: usize, level: u32) -> Option<u32>
+        ensures onward { Onward self.old.search self.new.search }
+        ensures conflict { IfSome result (λ clause. Jammed self.new.search.trail × (clause < numbers_of self.new.search)) }
+    {
+        self.search.propagate(start, level)
+    }
+
+    // Counts a decision, a fresh start, and a time that clauses were forgotten.
+    pub fn note_decision(&mut self)
+        ensures { self.new ≡ self.old }
+    {
+        self.counters.decisions = self.counters.decisions.saturating_add(1);
+    }
+
+    pub fn note_restart(&mut self)
+        ensures { self.new ≡ self.old }
+    {
+        self.counters.restarts = self.counters.restarts.saturating_add(1);
+    }
+
+    pub fn note_reduction(&mut self)
+        ensures { self.new ≡ self.old }
+    {
+        self.counters.reductions = self.counters.reductions.saturating_add(1);
+    }
+
     // Goes back by the clause of the analysis, which follows, and keeps it.
     fn go_on(&mut self, place: usize) -> Result<(), NoModel>
         requires jammed { Jammed self.old.search.trail }

@@ -6,7 +6,10 @@ use Rattle.std.proofs.Math.Seq.{get_or-append_right}
 use Rattle.clauses.specs.Formulas.{Assignment, value, Satisfies, Models}
 use Rattle.clauses.specs.Stores.{Follows, clause_at}
 use Rattle.trail.specs.Views.{TrailView, formula_of, variables_of}
-use Rattle.trail.specs.Trails.{IsTrueUnder, Good, Jammed}
+use Rattle.trail.specs.Trails.{IsTrueUnder, Good, Jammed, SameClauses, number, rank}
+use Rattle.trail.proofs.Numbers.{falls_by_budget}
+use Rattle.trail.proofs.Steps.{same_formula}
+use Rattle.solver.specs.Assumptions.{Wished}
 use Rattle.propagation.specs.Looking.{Differs}
 use Rattle.propagation.proofs.Seeing.{stuck}
 use Rattle.solver.specs.Values.{assignment, Full, AllSatisfied, SomeFalse}
@@ -55,3 +58,12 @@ own_second f g k h α m =
     let low : length f ≤ length f + k = omega arith in
     let e : length f + k - length f ≡ k = omega arith in
     subst (Satisfies α) (clause_second f g (length f + k) low ∙ ap (clause_at g) e) (m (length f + k) (omega (arith, length-append f g)))
+
+-- what is wished for is so over the same clauses
+pub wished_on : (s t : TrailView) (assumptions : List ℕ) (k : ℕ) → SameClauses s t → Wished (formula_of s) assumptions k → Wished (formula_of t) assumptions k
+wished_on s t assumptions k same wished = subst (λ (f : List (List ℕ)). Wished f assumptions k) (sym (same_formula s t same)) wished
+
+-- begun anew over the same clauses, at the cost of the budget
+pub falls_anew : (s t : TrailView) (budget budget' : ℕ) → SameClauses s t → budget' < budget → rank budget' t < rank budget s
+falls_anew s t budget budget' same less =
+    subst (λ (v : ℕ). number budget' t.marks t.len v < rank budget s) (sym (ap (λ p. p.variables) same.problem)) (falls_by_budget budget budget' s.marks t.marks s.len t.len (variables_of s) less)

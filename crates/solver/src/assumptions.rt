@@ -83,7 +83,7 @@ fn put_decision(search: &mut Search, assumptions: &[u32], count: usize, literal:
     search.decide(literal);
 }
 
-// The same of a learner.
+// The same of a learner, which counts it.
 fn put_on(learner: &mut Learner, assumptions: &[u32], count: usize, literal: u32) -> Step
     requires assumed { AssumedT assumptions.now count learner.old.search.trail }
     requires known { literal / 2 < variables_of learner.old.search.trail }
@@ -92,6 +92,7 @@ fn put_on(learner: &mut Learner, assumptions: &[u32], count: usize, literal: u32
     ensures { StepSays assumptions.now count learner.old.search.trail learner.new.search.trail result }
 {
     put_decision(&mut learner.search, assumptions, count, literal);
+    learner.note_decision();
     Step::Decided
 }
 

@@ -44,11 +44,11 @@ fn start_again(learner: &mut Learner, pace: &mut Pace, full: bool) -> usize
 {
     let root = learner.begin_anew();
     pace.begin_anew();
-    learner.counters.restarts = learner.counters.restarts.saturating_add(1);
+    learner.note_restart();
     if !full {
         return root;
     }
-    learner.counters.reductions = learner.counters.reductions.saturating_add(1);
+    learner.note_reduction();
     pace.note_forgotten(learner.counters.unkept);
     reduce(learner);
     root
@@ -131,16 +131,16 @@ fn seek(
     let mut restarts: u32 = u32::MAX;
     let mut force = assumptions.len();
     loop {
-        if let Some(conflict) = learner.search.propagate(start, level) {
+        if let Some(conflict) = learner.propagate(start, level) {
             if learner.learn(level, conflict).is_err() {
                 return false;
             }
             pace.note_conflict();
-            level = learner.search.level_before();
-            start = learner.search.trail().len().saturating_sub(1);
+            level = learner.search().level_before();
+            start = learner.search().trail().len().saturating_sub(1);
             continue;
         }
-        let full = pace.is_full(learner.search.learned(), learner.counters.unkept);
+        let full = pace.is_full(learner.search().learned(), learner.counters.unkept);
         if (full | pace.is_over()) && restarts > 0 {
             restarts -= 1;
             start = start_again(learner, pace, full);
@@ -150,7 +150,7 @@ fn seek(
         match decide_on(learner, assumptions, force, guide) {
             Step::Refuted => {
                 if force == firm {
-                    pace.start = learner.search.trail().len();
+                    pace.start = learner.search().trail().len();
                     return false;
                 }
                 force = firm;
@@ -159,23 +159,22 @@ fn seek(
                 continue;
             }
             Step::Decided => {
-                learner.counters.decisions = learner.counters.decisions.saturating_add(1);
-                start = learner.search.trail().len().saturating_sub(1);
-                level = learner.search.trail().len() as u32;
+                start = learner.search().trail().len().saturating_sub(1);
+                level = learner.search().trail().len() as u32;
                 continue;
             }
             Step::Complete => {}
         }
-        let found = is_model(learner.search.trail());
+        let found = is_model(learner.search().trail());
         if found {
-            pace.start = learner.search.trail().len();
+            pace.start = learner.search().trail().len();
             return true;
         }
         if learner.turn_round().is_err() {
             return false;
         }
-        level = learner.search.level_before();
-        start = learner.search.trail().len().saturating_sub(1);
+        level = learner.search().level_before();
+        start = learner.search().trail().len().saturating_sub(1);
     }
 }
 

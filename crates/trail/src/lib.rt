@@ -134,6 +134,7 @@ impl Trail<'_> {
     pub fn len(&self) -> usize
         ensures is { result ≡ self.now.len }
         ensures few { result ≤ variables_of self.now }
+        ensures small { result < 2147483647 }
     {
         self.len
     }

@@ -17,10 +17,10 @@ module _ (c : After-add) where
 pub returns-then-fails-clause-none : goal.returns-then-fails-clause-none
 returns-then-fails-clause-none c =
     let d = (goal.at.returns-then-fails-clause-none c).After-add in
-    never_fixed _ _ c.args.literal (is_added d) c.add.ensures.problem (good d) c.requires.rooted
+    never_fixed c.args.search.now.trail c.add.new.self.trail c.args.literal (is_added d) c.add.ensures.problem (good d) c.requires.rooted
     (sym (ap (λ (xs : List ℕ). get_or xs (c.args.literal / 2) 0) (ap (λ (t : TrailView). t.values) c.trail-2.ensures ∙ c.add.ensures.values)) ∙ eqb-true _ _ (sym c.fails.ensures ∙ c.if-fails.true))
 
 pub imply-requires-clause-implied : goal.imply-requires-clause-implied
 imply-requires-clause-implied c α m _ =
     let d = (goal.at.imply-requires-clause-implied c).After-add in
-    new_true _ _ c.args.literal (is_added d) c.add.ensures.problem α m
+    new_true c.args.search.now.trail c.add.new.self.trail c.args.literal (is_added d) c.add.ensures.problem α m

@@ -1,13 +1,16 @@
 -- Variables are settled one by one, as the first model has them.
-use Rattle.std.proofs.Common.{◌≡◌, ℕ, ◌+◌, ◌*◌, ◌/◌, ◌%◌, ◌≤◌, Bool, true, false, cond, not, List, [], ◌∷◌, get_or, sym, refl, ap, ◌∙◌, subst, ⊎_elim, arith}
+use Rattle.std.proofs.Common.{◌≡◌, ℕ, ◌+◌, ◌*◌, ◌/◌, ◌%◌, ◌≤◌, Bool, true, false, cond, not, List, [], ◌∷◌, length, get_or, sym, refl, ap, ◌∙◌, subst, ⊎_elim, arith}
 use mathlib.Core.Bool.{not-not}
 use Rattle.std.proofs.lemmas.Bool.{cases_eq, true≢false, eq-eqb, ne_eqb}
-use Rattle.clauses.specs.declared.store.Store.{Store}
 use Rattle.clauses.specs.Formulas.{Assignment, value, Models}
-use Rattle.clauses.specs.Stores.{formula_of, Added}
-use Rattle.learning.proofs.Following.{models_more}
-use Rattle.solver.proofs.Fixing.{old_models, new_true}
-use Rattle.descent.specs.Firsts.{Agree, Lower, FirstModel, Settled, Lowest, literal_for}
+use Rattle.clauses.specs.Stores.{Added}
+use Rattle.std.proofs.Math.ListN.{length-append}
+use Rattle.clauses.specs.Views.{StoreView}
+use Rattle.trail.specs.Views.{TrailView, formula_of}
+use Rattle.trail.specs.Trails.{SameClauses}
+use Rattle.trail.proofs.Steps.{same_formula}
+use Rattle.solver.proofs.Fixing.{models_more, old_models, new_true}
+use Rattle.descent.specs.Firsts.{Agree, Lower, FirstModel, Settled, Lowest, Room, literal_for}
 
 positive : (β : Assignment) (x : ℕ) → value β (2 * x) ≡ β x
 unfolding value
@@ -48,11 +51,10 @@ settled_other f g α γ low place s m =
     }
 
 -- a variable is fixed as α has it, where none lower is left
-module _ (f : List (List ℕ)) (v : ℕ) (α : Assignment) (low place l : ℕ) (s t : Store) (settled : Settled f (formula_of s) α low place) (lowest : Lowest (formula_of s) α place) (from : low ≤ place) (is : l ≡ literal_for α place) (added : Added v (l ∷ []) s t) where
+module _ (f : List (List ℕ)) (α : Assignment) (low place l : ℕ) (s t : TrailView) (settled : Settled f (formula_of s) α low place) (lowest : Lowest (formula_of s) α place) (from : low ≤ place) (is : l ≡ literal_for α place) (added : Added (l ∷ []) s.units t.units) (problem : t.problem ≡ s.problem) where
   models_fixed : (β : Assignment) → Models (formula_of s) β → β place ≡ α place → Models (formula_of t) β
   models_fixed β m e =
-      subst (λ (g : List (List ℕ)). Models g β) (sym added.formula)
-      (models_more (formula_of s) (l ∷ []) β m (record { at = 0; inside = omega arith; holds = ap (value β) is ∙ true_if β place (α place) e }))
+      models_more s t l added problem β m (ap (value β) is ∙ true_if β place (α place) e)
 
   agree_more : (β : Assignment) → Agree α β low place → β place ≡ α place → Agree α β low (place + 1)
   agree_more β agree e x a b = ⊎_elim (λ i. ap β i ∙ e ∙ ap α (sym i)) (λ ne. agree x a (omega arith)) (cases_eq x place)
@@ -72,8 +74,8 @@ module _ (f : List (List ℕ)) (v : ℕ) (α : Assignment) (low place l : ℕ) (
       record {
         model = models_fixed α settled.model refl;
         within = λ β m.
-            let old = settled.within β (old_models v l s t added β m) in
-            (old.0, agree_more β old.1 (agrees_if β place (α place) (sym (ap (value β) is) ∙ new_true v l s t added β m)));
+            let old = settled.within β (old_models s t l added problem β m) in
+            (old.0, agree_more β old.1 (agrees_if β place (α place) (sym (ap (value β) is) ∙ new_true s t l added problem β m)));
         keeps = λ β n agree. models_fixed β (settled.keeps β n (λ x a b. agree x a (omega arith))) (agree place from (omega arith));
         none_lower = λ β n l'.
             ⊎_elim
@@ -85,3 +87,17 @@ module _ (f : List (List ℕ)) (v : ℕ) (α : Assignment) (low place l : ℕ) (
 pub settled_all : (f g : List (List ℕ)) (α : Assignment) (low place high : ℕ) → place ≡ high → Settled f g α low place → FirstModel f α low high
 settled_all f g α low place high e s =
     record { model = (s.within α s.model).0; none_lower = λ β n l. s.none_lower β n (record { at = l.at; from = l.from; inside = omega (arith, l.inside); same = l.same; zero = l.zero; one = l.one }) }
+
+-- one clause of one literal more, and there is room for the others
+pub room_less : (s t : StoreView) (l more more' : ℕ) → Added (l ∷ []) s t → Room s more → more' + 1 ≤ more → Room t more'
+room_less s t l more more' a r less =
+    let n : length t.formula ≡ length s.formula + 1 = ap length a.formula ∙ length-append s.formula ((l ∷ []) ∷ []) in
+    record { spans = omega (arith, a.memory.spans_size, r.spans); words = omega (arith, a.used, a.memory.words_size, r.words); small = omega (arith, a.used, r.small) }
+
+-- the same memory and clauses after other questions
+pub room_same : (s t : TrailView) (more : ℕ) → SameClauses s t → Room s.units more → Room t.units more
+room_same s t more same room = subst (λ (u : StoreView). Room u more) (sym same.units) room
+
+pub settled_same : (f : List (List ℕ)) (s t : TrailView) (α γ : Assignment) (low place : ℕ) → SameClauses s t → Settled f (formula_of s) α low place → Models (formula_of t) γ → Settled f (formula_of t) γ low place
+settled_same f s t α γ low place same settled m =
+    settled_other f (formula_of t) α γ low place (subst (λ (g : List (List ℕ)). Settled f g α low place) (sym (same_formula s t same)) settled) m

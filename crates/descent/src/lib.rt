@@ -60,11 +60,10 @@ fn descend(solver: &mut Solver, low: usize, high: usize, values: &mut [u32]) -> 
     ensures first { FirstModel (formula_of solver.old.learner.search.trail) (assignment values.new) low high }
     ensures questions { result + 1 ≤ high - low }
 {
+    let _ = solver.fix(literal_at(values, low));
     let mut questions = 0;
-    for place in low..high {
-        if place > low {
-            questions += lower(solver, place, values);
-        }
+    for place in low + 1..high {
+        questions += lower(solver, place, values);
         let _ = solver.fix(literal_at(values, place));
     }
     questions
@@ -72,7 +71,12 @@ fn descend(solver: &mut Solver, low: usize, high: usize, values: &mut [u32]) -> 
 
 // The first model of the clauses, by the variables of a range; the values are it then. How many
 // questions that took; nothing where there is no model.
-pub fn first_model(solver: &mut Solver, low: usize, high: usize, values: &mut [u32]) -> Option<usize>
+pub fn first_model(
+    solver: &mut Solver,
+    low: usize,
+    high: usize,
+    values: &mut [u32],
+) -> Option<usize>
     requires size { length values.old ≡ variables_of solver.old.learner.search.trail }
     requires few { variables_of solver.old.learner.search.trail < 2147483647 }
     requires range { high ≤ variables_of solver.old.learner.search.trail }

@@ -1,73 +1,31 @@
-use Rattle.std.proofs.Common.{◌+◌, ◌-◌, ◌∙◌, arith}
-use Rattle.clauses.specs.Stores.{formula_of}
-use Rattle.clauses.proofs.Growing.{grown_on}
-use Rattle.solver.specs.Values.{assignment}
-use Rattle.descent.specs.Firsts.{Settled, Room}
-use Rattle.descent.proofs.Settling.{settled_more, settled_other, settled_all}
+use Rattle.std.proofs.Common.{◌+◌, ◌-◌, ◌∙◌, ap, arith}
+use Rattle.descent.proofs.Settling.{settled_none, settled_more, settled_all, settled_same, room_less, room_same}
 use Rattle.descent.proofs.descend.Goals as goal
-use Rattle.descent.proofs.descend.Goals.{After-fix}
 
--- the variable at the place is settled
-module _ (c : After-fix) where
-  settled : Settled (formula_of c.args.problem.now) (formula_of c.fix.new.problem) (assignment c.loop-place.values) c.args.low (c.loop-place.place + 1)
-  settled = settled_more _ _ _ _ _ _ _ _ c.loop-place.invariant.settled c.loop-place.invariant.lowest c.loop-place.invariant.from c.literal_at-literal.ensures c.fix.ensures.added
-
-  room : Room c.fix.new.problem (c.args.high - (c.loop-place.place + 1))
-  room =
-      let a = c.fix.ensures.added in
-      let r = c.loop-place.invariant.room in
-      let i = c.loop-place.invariant.inside in
-      record { spans = omega (arith, a.count, c.fix.ensures.spans_size, r.spans, i); words = omega (arith, a.used, c.fix.ensures.words_size, r.words, i); small = omega (arith, a.used, r.small, i) }
-
-pub lower-questions-requires : goal.lower-questions-requires
-lower-questions-requires c =
-    let d = (goal.at.lower-questions-requires c).After-fix in
-    let e = c.fix.ensures in
-    let i = c.loop-place.invariant in
+pub loop-place-init : goal.loop-place-init
+loop-place-init c =
+    let r = c.requires in
+    let f = c.fix.ensures in
     record {
-      good = e.good;
-      stored = e.added.stored;
-      learned = e.learned;
-      base = omega (arith, i.base, e.added.count);
-      causes = e.causes;
-      noted = i.noted;
-      ordered = e.ordered;
-      few = c.requires.few;
-      size = i.size;
-      place = omega (arith, i.inside, c.requires.range);
-      model = (settled d).model;
+      problem = f.problem;
+      size = r.size;
+      room = room_less _ _ _ (c.args.high - c.args.low) _ f.added r.units (omega (arith, r.range));
+      settled = settled_more _ _ _ _ _ c.args.solver.now.learner.search.trail c.fix.new.self.learner.search.trail (settled_none _ _ _ r.model) r.lowest (omega arith) c.literal_at.ensures f.added f.problem;
+      questions = omega arith;
     }
 
 pub loop-place-preserved : goal.loop-place-preserved
 loop-place-preserved c =
-    let d = (goal.at.loop-place-preserved c).After-fix in
-    let f = c.fix.ensures in
-    let e = c.lower-questions.ensures in
     let i = c.loop-place.invariant in
+    let e = c.lower-questions.ensures in
+    let f = c.fix-in-loop-place.ensures in
     record {
-      good = e.good;
-      stored = f.added.stored;
-      learned = e.learned;
-      base = omega (arith, i.base, f.added.count);
-      causes = e.causes;
-      noted = e.noted;
-      ordered = e.ordered;
+      problem = f.problem ∙ e.clauses.problem ∙ i.problem;
       size = c.lower-questions.auto.values ∙ i.size;
-      from = omega (arith, i.from);
-      inside = omega (arith, i.inside);
-      grown = grown_on _ _ _ i.grown f.grown;
-      room = room d;
-      settled = settled_other _ _ _ _ _ _ (settled d) e.model;
-      lowest = e.lowest;
-      questions = omega (arith, i.questions, i.from, e.few);
+      room = room_less _ _ _ (c.args.high - c.loop-place.place) _ f.added (room_same _ _ _ e.clauses i.room) (omega (arith, c.requires.range));
+      settled = settled_more _ _ _ _ _ c.lower-questions.new.solver.learner.search.trail c.fix-in-loop-place.new.self.learner.search.trail (settled_same _ _ _ _ _ _ _ e.clauses i.settled e.model) e.lowest (omega (arith, i.questions)) c.literal_at-in-loop-place.ensures f.added f.problem;
+      questions = omega (arith, i.questions, e.few);
     }
 
-pub returns : goal.returns
-returns c =
-    let d = (goal.at.returns c).After-fix in
-    let i = c.loop-place.invariant in
-    record {
-      first = settled_all _ _ _ _ _ _ (omega arith) (settled d);
-      grown = grown_on _ _ _ i.grown c.fix.ensures.grown;
-      questions = omega (arith, i.questions, i.from, i.inside);
-    }
+pub returns-clause-first : goal.returns-clause-first
+returns-clause-first c = settled_all _ _ _ _ _ _ (omega (arith, c.requires.range)) c.loop-place.invariant.settled

@@ -45,6 +45,7 @@ pub record Parsed (v : ℕ) (spans words : List ℕ) (c : ClausesView) : Type 0 
   pub clauses : Clauses v spans words
   pub variables : c.variables ≡ v
   pub formula : c.formula ≡ formula spans words (length spans / 2)
+  pub long : length c.formula ≡ length spans / 2
 
 abbrev pub ParsedIf : ℕ → List ℕ → List ℕ → Option ClausesView → Type 0
 ParsedIf v spans words None = Clauses v spans words → ⊥

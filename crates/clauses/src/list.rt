@@ -68,6 +68,7 @@ impl<'a> Clauses<'a> {
         requires { Stored variables spans.now words.now count (length words.now) }
         ensures variables { result.variables ≡ variables }
         ensures formula { result.formula ≡ formula spans.now words.now count }
+        ensures long { length result.formula ≡ count }
     {
         Clauses {
             variables,

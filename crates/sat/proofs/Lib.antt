@@ -1,0 +1,2 @@
+-- answers, from what the searches found
+pub mod Answering

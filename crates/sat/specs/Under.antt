@@ -52,6 +52,20 @@ FirstPost spans words count used low high values values' room (Ok None) = Asked 
 FirstPost spans words count used low high values values' room (Err Bad) = (Asked (length values) spans words count used high → ⊥) × (values' ≡ values)
 FirstPost spans words count used low high values values' room (Err Few) = Asked (length values) spans words count used high × (Fitting (length values) spans words count used low high room → ⊥) × (values' ≡ values)
 
+-- there is room for the units of a range, behind clauses of so many literals, in so many spans and words
+pub record Roomy (v : ℕ) (spans words : List ℕ) (spare_spans spare_words low high room : ℕ) : Type 0 where
+  pub spans_room : high - low ≤ spare_spans / 2
+  pub words_room : high - low ≤ spare_words
+  pub small : length words + (high - low) < 2 ^ 32
+  pub enough : floor_of v (length spans / 2) ≤ room
+
+-- the same of clauses and of the memory behind them
+abbrev pub FirstOf : List ℕ → List ℕ → ℕ → ℕ → ℕ → ℕ → List ℕ → List ℕ → ℕ → Result (Option ℕ) Refusal → Type 0
+FirstOf spans words more_spans more_words low high values values' room (Ok (Some n)) = Clauses (length values) spans words × Roomy (length values) spans words more_spans more_words low high room × FirstModel (clauses_of spans words) (assignment values') low high × (low < high → n ≤ high - low)
+FirstOf spans words more_spans more_words low high values values' room (Ok None) = Clauses (length values) spans words × Roomy (length values) spans words more_spans more_words low high room × ((α : Assignment) → Models (clauses_of spans words) α → ⊥) × (values' ≡ values)
+FirstOf spans words more_spans more_words low high values values' room (Err Bad) = (Clauses (length values) spans words → ⊥) × (values' ≡ values)
+FirstOf spans words more_spans more_words low high values values' room (Err Few) = Clauses (length values) spans words × (Roomy (length values) spans words more_spans more_words low high room → ⊥) × (values' ≡ values)
+
 abbrev pub first_code : Result (Option ℕ) Refusal → ℕ
 first_code (Ok None) = 0
 first_code (Err Bad) = 1

@@ -3,9 +3,9 @@
 // its two spans up to the second.
 #![tactic(auto)]
 
-ghost use Rattle.std.specs.Prelude.{◌≡◌, ℕ, ◌+◌, ◌*◌, ◌^◌, ◌<◌, length, slice_index};
+ghost use Rattle.std.specs.Prelude.{◌≡◌, ℕ, ◌+◌, ◌*◌, ◌^◌, ◌<◌, ◌≤◌, length, slice_index};
 ghost use Rattle.sat.specs.Promise.{floor_of, code, AnswerPost, CodePost};
-ghost use Rattle.sat.specs.Under.{UnderPost, UnderCodePost, FirstPost, FirstCodePost};
+ghost use Rattle.sat.specs.Under.{UnderPost, UnderCodePost, FirstPost, FirstOf, FirstCodePost};
 
 use clauses::{Clauses, Store, all_known};
 use conflicts::Counters;
@@ -136,15 +136,52 @@ pub fn sat_ask_under(
     ensures words { words.new ≡ words.old }
     ensures code { UnderCodePost spans.old words.old assumptions.now values.old values.new (length work.old) result }
 {
-    code_of(ask_under(
-        spans,
-        words,
+    code_of(ask_under(spans, words, values, decided, assumptions, counts, work))
+}
+
+// The first model of clauses that stand in memory of their own; the units that come get other memory.
+fn first_of(
+    spans: &[u32],
+    words: &[u32],
+    spare_spans: &mut [u32],
+    spare_words: &mut [u32],
+    values: &mut [u32],
+    decided: usize,
+    low: usize,
+    high: usize,
+    counts: &mut [u64],
+    work: &mut [u32],
+) -> Result<Option<usize>, Refusal>
+    requires few { length values.old < 2147483647 }
+    requires range { high ≤ length values.old }
+    ensures { FirstOf spans.now words.now (length spare_spans.old) (length spare_words.old) low high values.old values.new (length work.old) result }
+{
+    let variables = values.len();
+    let problem = Clauses::parse(variables, spans, words).ok_or(Refusal::Bad)?;
+    let more = high.saturating_sub(low);
+    if more > spare_spans.len() / 2
+        || more > spare_words.len()
+        || more > 0xffff_ffff - words.len()
+    {
+        return Err(Refusal::Few);
+    }
+    if work.len() < floor(variables, problem.len()) {
+        return Err(Refusal::Few);
+    }
+    let units = Store::new(variables, spare_spans, spare_words);
+    let mut counters = Counters::default();
+    let found = first_stored(
+        problem,
+        units,
         values,
         decided,
-        assumptions,
-        counts,
+        low,
+        high,
         work,
-    ))
+        &mut counters,
+    );
+    write_counters(&counters, counts);
+    Ok(found)
 }
 
 // The first model of clauses by the variables of a range, in their sequence, false first. The first so
@@ -176,28 +213,18 @@ pub fn first(
     }
     let (spans, spare_spans) = spans.split_at_mut(2 * count);
     let (words, spare_words) = words.split_at_mut(used);
-    let problem = Clauses::parse(variables, spans, words).ok_or(Refusal::Bad)?;
-    let more = high.saturating_sub(low);
-    if more > spare_spans.len() / 2 || more > spare_words.len() || more > 0xffff_ffff - used {
-        return Err(Refusal::Few);
-    }
-    if work.len() < floor(variables, count) {
-        return Err(Refusal::Few);
-    }
-    let units = Store::new(variables, spare_spans, spare_words);
-    let mut counters = Counters::default();
-    let found = first_stored(
-        problem,
-        units,
+    first_of(
+        spans,
+        words,
+        spare_spans,
+        spare_words,
         values,
         decided,
         low,
         high,
+        counts,
         work,
-        &mut counters,
-    );
-    write_counters(&counters, counts);
-    Ok(found)
+    )
 }
 
 // The answer as a number: 0 where there is none, 1 bad clauses, 2 few words, and else how many

@@ -1,15 +1,18 @@
-use Rattle.std.proofs.Common.{refl, arith}
+use Rattle.std.proofs.Common.{length, subst, rules, arith}
+use Rattle.clauses.specs.Formulas.{Models}
+use Rattle.clauses.specs.Stores.{Parsed}
+use Rattle.solver.specs.Values.{assignment}
+use Rattle.solver.specs.Assumptions.{NoneWith}
+use Rattle.sat.proofs.Answering.{under_ok}
 use Rattle.sat.proofs.ask_under.Goals as goal
 
-pub returns-else-found : goal.returns-else-found
-returns-else-found c =
+pub returns-clause-answer : goal.returns-clause-answer
+returns-clause-answer c =
+    let p : Parsed (length c.args.values.now) c.args.spans.now c.args.words.now c.in_ok-problem.problem = search rules in
     let e = c.ask_stored-found.ensures in
-    record {
-      spans = refl;
-      words = refl;
-      answer = (
-        record { few = omega arith; clauses = c.if-not-is_stored.ensures.yes refl; known = c.if-not-all_known.ensures.yes refl; enough = omega arith },
-        e.none c.if-found.false,
-        e.same c.if-found.false,
-      );
-    }
+    under_ok _ _ _ _ _ _ c.ask_stored-found.result
+    (record { few = omega arith; clauses = p.clauses; known = search rules; enough = omega (arith, p.long) })
+    (λ y. subst (λ f. Models f (assignment c.ask_stored-found.new.values)) p.formula (e.model y))
+    e.holds
+    (λ n. subst (λ f. NoneWith f c.args.assumptions.now (length c.args.assumptions.now)) p.formula (e.none n))
+    e.same

@@ -1,10 +1,16 @@
 -- The clauses of a circuit.
-use Rattle.std.specs.Prelude.{◌≡◌, ℕ, ◌+◌, ◌*◌, ◌^◌, ◌<◌, ◌≤◌, Bool, true, false, List, length}
+use Rattle.std.specs.Prelude.{◌≡◌, ℕ, ◌+◌, ◌*◌, ◌^◌, ◌<◌, ◌≤◌, Bool, true, false, ◌||◌, List, [], ◌∷◌, length}
 use Rattle.clauses.specs.declared.store.Store.{Store}
-use Rattle.clauses.specs.Formulas.{Assignment, Models}
+use Rattle.clauses.specs.Formulas.{Assignment, value, Models}
 use Rattle.clauses.specs.Stores.{formula_of, StoredS}
 use Rattle.gates.specs.declared.circuit.Circuit.{Circuit}
-use Rattle.gates.specs.Circuits.{output, GoesC, MeetsC}
+use Rattle.gates.specs.Words.{output}
+use Rattle.gates.specs.Circuits.{GoesC, MeetsC}
+
+-- one of a clause's literals is true
+abbrev pub satisfied : Assignment → List ℕ → Bool
+satisfied α [] = false
+satisfied α (l ∷ c) = value α l || satisfied α c
 
 -- a store has so many clauses and literals more, which say Q
 pub record Writes (v : ℕ) (s : Store) (clauses literals : ℕ) (Q : Assignment → Type 0) (t : Store) : Type 0 where

@@ -1,7 +1,7 @@
 use Rattle.std.proofs.Common.{◌∙◌, inl, inr}
 use Rattle.gates.proofs.Literals.{fold_true, fold_px, fold_py, fold_x, fold_y, fold_xy, fold_to_y, fold_alike, fold_to_x}
-use Rattle.gates.proofs.folding.folded.Goals as goal
-use Rattle.gates.proofs.folding.folded.Goals.{then-x-eq1-via-then-x-eq1, then-x-eq1-via-else-x-eq1+then-y-eq1, then-x-eq1-via-else-x-eq1+else-y-eq1+then-x-negated}
+use Rattle.gates.proofs.folding.Inputs.folded.Goals as goal
+use Rattle.gates.proofs.folding.Inputs.folded.Goals.{then-x-eq1-via-then-x-eq1, then-x-eq1-via-else-x-eq1+then-y-eq1, then-x-eq1-via-else-x-eq1+else-y-eq1+then-x-negated}
 
 pub returns-then-p-eq0 : goal.returns-then-p-eq0
 returns-then-p-eq0 c = elim c.then-p-eq0.either [ inl e ↦ fold_true _ _ _ e | inr (inl e) ↦ fold_px _ _ _ e.1 | inr (inr e) ↦ fold_py _ _ _ e.2 ]

@@ -1,6 +1,5 @@
 -- generic lemmas
 pub mod Quantifiers
-pub mod Places
 pub mod Order
 -- bytes are the writing of one description at most
 pub mod Inversion

@@ -29,7 +29,7 @@ pub fn outline_of(description: &[u8]) -> Option<Outline>
     if extent.end == description.len() {
         Some(Outline {
             relations,
-            depth: extent.depth,
+            depth: extent.value,
         })
     } else {
         None

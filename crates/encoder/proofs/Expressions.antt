@@ -11,7 +11,7 @@ use Rattle.evaluator.specs.Speaking.{seen}
 use Rattle.evaluator.proofs.Values.{transform_cong, combine_cong}
 use Rattle.evaluator.proofs.Environments.{spoken_at}
 use Rattle.gates.specs.declared.circuit.Circuit.{Circuit}
-use Rattle.gates.specs.Circuits.{SoundC, GrewC, AddsC, Full}
+use Rattle.gates.specs.Circuits.{GrewC, AddsC, Full}
 use Rattle.gates.proofs.Gates.{goes_fewer}
 use Rattle.tables.specs.declared.plain.Plain.TheVariants as plain
 use Rattle.tables.specs.Tables.{shown, ShowsC, PlainTable, combine_cost, transform_cost}

@@ -2,7 +2,7 @@
 use Rattle.std.proofs.Common.{ℕ, List, arith}
 use Rattle.descriptions.specs.Meaning.{Expression, Sentence}
 use Rattle.gates.specs.declared.circuit.Circuit.{Circuit}
-use Rattle.gates.specs.Circuits.{SoundC, GrewC, AddsC, Claims}
+use Rattle.gates.specs.Circuits.{GrewC, AddsC, Claims}
 use Rattle.gates.proofs.Gates.{goes_fewer, grows_not, grows_on}
 use Rattle.gates.proofs.Claims.{goes_unclaimed}
 use Rattle.tables.proofs.Filling.{filled_still}

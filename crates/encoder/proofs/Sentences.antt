@@ -12,7 +12,8 @@ use Rattle.evaluator.specs.Speaking.{seen, Extended}
 use Rattle.clauses.specs.Formulas as literal
 use Rattle.clauses.proofs.Literals.{value_negation}
 use Rattle.gates.specs.declared.circuit.Circuit.{Circuit}
-use Rattle.gates.specs.Circuits.{mix, SoundC, GrewC, AddsC, GivesC, Full}
+use Rattle.gates.specs.Words.{mix}
+use Rattle.gates.specs.Circuits.{GrewC, AddsC, GivesC, Full}
 use Rattle.gates.proofs.Literals.{value_true, value_false, negation_low}
 use Rattle.gates.proofs.Gates.{goes_fewer}
 use Rattle.tables.specs.declared.plain.Plain.TheVariants as plain

@@ -9,7 +9,7 @@ use Rattle.evaluator.specs.declared.evaluating.Environment.{Environment}
 use Rattle.evaluator.specs.Speaking.{seen}
 use Rattle.clauses.specs.Formulas as literal
 use Rattle.gates.specs.declared.circuit.Circuit.{Circuit}
-use Rattle.gates.specs.Circuits.{GoesC, SoundC, GrewC}
+use Rattle.gates.specs.Circuits.{GoesC, GrewC}
 use Rattle.tables.specs.Tables.{shown, FilledC, combine_cost, transform_cost}
 use Rattle.encoder.specs.declared.encoding.Shape.{Shape}
 use Rattle.encoder.specs.declared.encoding.Table.{Table}

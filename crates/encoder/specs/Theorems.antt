@@ -8,7 +8,7 @@ use Rattle.clauses.specs.declared.store.Store.{Store}
 use Rattle.clauses.specs.Formulas.{Assignment, value, Models}
 use Rattle.clauses.specs.Stores.{formula_of}
 use Rattle.gates.specs.declared.circuit.Circuit.{Circuit}
-use Rattle.gates.specs.Circuits.{GoesC, SoundC}
+use Rattle.gates.specs.Circuits.{GoesC}
 use Rattle.gates.specs.Writing.{Written}
 use Rattle.encoder.specs.declared.encoding.Shape.{Shape}
 use Rattle.encoder.specs.Encoding.{bits_of, Draws, drawn, size_s, Means}

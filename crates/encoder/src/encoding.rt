@@ -3,7 +3,7 @@
 // what does not speak of the thing comes to the same gates, which are shared.
 ghost use Rattle.std.specs.Prelude.{◌≡◌, ◌+◌, ◌*◌, ◌<◌, ◌≤◌};
 ghost use Rattle.evaluator.specs.Speaking.{Sees};
-ghost use Rattle.gates.specs.Circuits.{SoundC};
+
 ghost use Rattle.encoder.specs.Encoding.{bits_of, Few, Grown, TableSays, TablesSay, TruthSays, EverySaysIf, Encoded};
 
 use clauses::negated;

@@ -29,6 +29,9 @@ pub negation_low : (l b : ℕ) → l < 2 * b → negation l < 2 * b
 unfolding negation
 negation_low l b h = omega arith
 
+pub negated_low : (l r b : ℕ) → r ≡ negation l → l < 2 * b → r < 2 * b
+negated_low l r b e h = let n = negation_low l b h in omega arith
+
 -- the same gate written in another way
 and_comm : (a b : Bool) → (a && b) ≡ (b && a)
 and_comm true true = refl

@@ -5,7 +5,7 @@ use Rattle.std.proofs.lemmas.List.{get_or-set_same, get_or-set_other}
 use Rattle.std.proofs.lemmas.Bool.{cases_lt}
 use Rattle.descriptions.specs.Pictures.{Relation}
 use Rattle.clauses.specs.Formulas.{Assignment, value}
-use Rattle.gates.specs.Circuits.{Goes, Sound}
+use Rattle.gates.specs.Words.{Goes, Sound}
 use Rattle.gates.proofs.Literals.{value_even, value_true, value_false}
 use Rattle.tables.specs.declared.plain.Plain.{Plain}
 use Rattle.tables.specs.declared.plain.Plain.TheVariants.{Inputs, Single, Identity, Empty}

@@ -8,7 +8,8 @@ use Rattle.descriptions.proofs.Quantifiers.{same_truth, any_some, any_at}
 use Rattle.clauses.specs.Formulas.{Assignment, value, negation}
 use Rattle.clauses.proofs.Literals.{value_negation}
 use Rattle.gates.specs.declared.circuit.Circuit.{Circuit}
-use Rattle.gates.specs.Circuits.{mix, Goes, Sound, Grows, Adds, Gives, Came}
+use Rattle.gates.specs.Words.{mix, Goes, Sound, Grows, Adds, Gives}
+use Rattle.gates.specs.Circuits.{Came}
 use Rattle.gates.proofs.Literals.{value_true, value_false}
 use Rattle.gates.proofs.Gates.{gives_still, grows_on}
 use Rattle.tables.specs.Tables.{shown, Filled, Shows, Upto}

@@ -10,7 +10,7 @@ use Rattle.descriptions.specs.Pictures.{Relation, any, compose, reach}
 use Rattle.descriptions.specs.Meaning.{transform, combine}
 use Rattle.clauses.specs.Formulas.{Assignment, value, negation}
 use Rattle.clauses.proofs.Literals.{value_negation}
-use Rattle.gates.specs.Circuits.{mix, Grows, Adds, Gives}
+use Rattle.gates.specs.Words.{mix, Grows, Adds, Gives}
 use Rattle.gates.proofs.Literals.{value_true, value_false}
 use Rattle.gates.proofs.Gates.{goes_fewer}
 use Rattle.tables.specs.declared.pairs.Way.{Way}

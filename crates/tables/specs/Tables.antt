@@ -8,7 +8,7 @@ use Rattle.descriptions.specs.Pictures.{Relation}
 use Rattle.descriptions.specs.Meaning.{transform, combine}
 use Rattle.clauses.specs.Formulas.{Assignment, value}
 use Rattle.gates.specs.declared.circuit.Circuit.{Circuit}
-use Rattle.gates.specs.Circuits.{Goes, Gives}
+use Rattle.gates.specs.Words.{Goes, Gives}
 use Rattle.tables.specs.declared.plain.Plain.{Plain}
 use Rattle.tables.specs.declared.plain.Plain.TheVariants as plain
 use Rattle.tables.specs.declared.pairs.Way.{Way}

@@ -3,7 +3,7 @@
 ghost use Rattle.std.specs.Prelude.{◌*◌, ◌≤◌, not, ◌&&◌};
 ghost use Rattle.descriptions.specs.Pictures.{any, reach};
 ghost use Rattle.descriptions.specs.Meaning.{transform, combine};
-ghost use Rattle.gates.specs.Circuits.{SoundC, AddsC, GivesC, Came};
+ghost use Rattle.gates.specs.Circuits.{AddsC, GivesC, Came};
 ghost use Rattle.tables.specs.Tables.{shown, FilledC, ShowsC, made, way_cost, combine_cost, transform_cost, Known};
 
 use crate::pairs::{Way, pair};

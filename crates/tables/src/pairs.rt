@@ -2,7 +2,7 @@
 ghost use Rattle.std.specs.Prelude.{◌*◌, ◌/◌, ◌%◌, ◌<◌, ◌≤◌};
 ghost use Rattle.descriptions.specs.Pictures.{any, compose};
 ghost use Rattle.descriptions.specs.Meaning.{combine};
-ghost use Rattle.gates.specs.Circuits.{SoundC, AddsC, GivesC, Came};
+ghost use Rattle.gates.specs.Circuits.{AddsC, GivesC, Came};
 ghost use Rattle.tables.specs.Tables.{shown, FilledC, made, binary_cost, way_cost, Known};
 
 use clauses::negated;

@@ -2,7 +2,12 @@
 use Rattle.std.proofs.Common.{◌≡◌, ℕ, ◌+◌, ◌-◌, ◌*◌, ◌/◌, ◌^◌, ◌<◌, ◌≤◌, ◌≢◌, ◌⊎◌, List, [], ◌∷◌, ◌++◌, map, length, get_or, take, drop, set, sym, refl, ap, ◌∙◌, subst, inl, inr, arith, below_more}
 use Rattle.std.specs.List.{range_with_len}
 use Rattle.std.proofs.lemmas.List.FromFn.{fill_by_all, length-map-range_with_len, get_or-map-range_with_len, map-range_with_len_more}
-use Rattle.std.proofs.lemmas.List.{ext_get_or, length-take, length-drop, length-set, get_or-take, get_or-drop, get_or-set_same, get_or-set_other}
+use borrow.Rule.Slice.PartMut.{put_mid}
+use Rattle.std.proofs.lemmas.Slice.{put_mid-paste}
+use Rattle.std.proofs.lemmas.List.Edits.{paste_all, length-paste}
+use Rattle.std.proofs.Math.ListN.{get_or-append}
+use Rattle.std.proofs.Math.Seq.{paste}
+use Rattle.std.proofs.lemmas.List.{length-take-le, get_or-append_right, ext_get_or, length-take, length-drop, length-set, get_or-take, get_or-drop, get_or-set_same, get_or-set_other}
 use Rattle.std.proofs.lemmas.Bool.{cases_lt}
 use Rattle.clauses.specs.Stores.{from, to, clause, formula, Stored}
 
@@ -12,15 +17,18 @@ pub record Copied (c : List ℕ) (begin : ℕ) (w w' : List ℕ) (place : ℕ) :
   pub before : (p : ℕ) → p < begin → get_or w' p 0 ≡ get_or w p 0
   pub done : (j : ℕ) → j < place → get_or w' (begin + j) 0 ≡ get_or c j 0
 
-pub copied_none : (c : List ℕ) (begin : ℕ) (w : List ℕ) → Copied c begin w w 0
-copied_none c begin w = record { long = refl; before = λ p h. refl; done = λ j h. absurd (omega arith) }
-
-pub copied_more : (c : List ℕ) (begin : ℕ) (w w' : List ℕ) (place : ℕ) → begin + place < length w' → Copied c begin w w' place → Copied c begin w (set w' (begin + place) (get_or c place 0)) (place + 1)
-copied_more c begin w w' place l h =
+-- a clause written over a part of a list
+pub copied_part : (c w w' : List ℕ) (begin : ℕ) → begin + length c ≤ length w → w' ≡ put_mid begin (begin + length c - begin) w c → Copied c begin w w' (length c)
+copied_part c w w' begin h e =
+    let n : begin + length c - begin ≡ length c = omega arith in
+    let is : w' ≡ paste w begin c (length c) = e ∙ put_mid-paste begin (begin + length c - begin) w c c (length c) refl (sym n) refl in
+    let all : paste w begin c (length c) ≡ take begin w ++ (c ++ drop (begin + length c) w) = paste_all w begin c (length c) refl in
+    let l : length (take begin w) ≡ begin = length-take-le begin w (omega arith) in
     record {
-      long = length-set w' (begin + place) (get_or c place 0) ∙ h.long;
-      before = λ p b. let ne : p ≢ (begin + place) = omega arith in get_or-set_other w' (begin + place) p (get_or c place 0) 0 ne ∙ h.before p b;
-      done = below_more _ _ (λ j b. let ne : (begin + j) ≢ (begin + place) = omega arith in get_or-set_other w' (begin + place) (begin + j) (get_or c place 0) 0 ne ∙ h.done j b) (get_or-set_same w' (begin + place) (get_or c place 0) 0 l);
+      long = ap length is ∙ length-paste w begin c (length c) h (omega arith);
+      before = λ p b. ap (λ (x : List ℕ). get_or x p 0) (is ∙ all) ∙ get_or-append (take begin w) _ 0 p (omega arith) ∙ get_or-take begin w p 0 b;
+      done = λ j b. ap (λ (x : List ℕ). get_or x (begin + j) 0) (is ∙ all) ∙ get_or-append_right (take begin w) _ begin (begin + j) 0 l (omega arith)
+          ∙ ap (λ (x : ℕ). get_or (c ++ drop (begin + length c) w) x 0) (let s : begin + j - begin ≡ j = omega arith in s) ∙ get_or-append c _ 0 j b;
     }
 
 -- a part of a list is made of its elements
@@ -69,7 +77,7 @@ module _ (spans : List ℕ) (count begin end : ℕ) (room : 2 * (count + 1) ≤ 
   unfolding to
   to_new = let l = length-set spans (2 * count) begin in get_or-set_same (set spans (2 * count) begin) (2 * count + 1) end 0 (omega arith)
 
-same_formula : (spans words spans' words' : List ℕ) (n : ℕ) → ((k : ℕ) → k < n → clause spans' words' k ≡ clause spans words k) → formula spans' words' n ≡ formula spans words n
+pub same_formula : (spans words spans' words' : List ℕ) (n : ℕ) → ((k : ℕ) → k < n → clause spans' words' k ≡ clause spans words k) → formula spans' words' n ≡ formula spans words n
 unfolding formula
 same_formula spans words spans' words' n h =
     fill_by_all (λ k. clause spans words k) (map (λ k. clause spans' words' k) (range_with_len 0 n)) n [] (length-map-range_with_len (λ k. clause spans' words' k) 0 n)
@@ -129,3 +137,15 @@ module _ (v : ℕ) (c spans words words' : List ℕ) (count used : ℕ) (stored 
           let j : ℕ = p - used in
           let e : used + j ≡ p = omega arith in
           subst (λ (x : ℕ). x / 2 < v) (sym (sym (ap (λ (x : ℕ). get_or words' x 0) e) ∙ copied.done j (omega arith))) (known j (omega arith))
+
+-- a formula is made of the words that are used
+pub formula_used : (v : ℕ) (spans words words' : List ℕ) (count used : ℕ) → Stored v spans words count used → length words' ≡ used → ((p : ℕ) → p < used → get_or words' p 0 ≡ get_or words p 0) → formula spans words' count ≡ formula spans words count
+unfolding clause
+formula_used v spans words words' count used s l e = same_formula spans words spans words' count each
+  where
+    each : (k : ℕ) → k < count → clause spans words' k ≡ clause spans words k
+    each k h =
+        let o = s.order k h in let i = s.inside k h in let r = s.words_room in
+        let n : ℕ = to spans k - from spans k in
+        let a = length_part words (from spans k) n (omega arith) in let b = length_part words' (from spans k) n (omega arith) in
+        ext_get_or 0 (take n (drop (from spans k) words')) (take n (drop (from spans k) words)) (b ∙ sym a) (λ j g. get_d_part words' (from spans k) n j (omega arith) ∙ e (from spans k + j) (omega arith) ∙ sym (get_d_part words (from spans k) n j (omega arith)))

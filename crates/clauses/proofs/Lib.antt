@@ -2,5 +2,3 @@
 pub mod Copies
 -- literals and models
 pub mod Literals
--- stores that only grow
-pub mod Growing

@@ -1,3 +1,5 @@
--- Literals, clauses and assignments; clauses in lent memory.
+-- Literals, clauses and assignments; clauses in memory.
 pub mod Formulas
+pub mod Views
 pub mod Stores
+pub mod Keeping

@@ -1,8 +1,10 @@
 -- Clauses in lent memory: their literals one after the other, and for each clause from where to where they stand.
-use Rattle.std.specs.Prelude.{◌≡◌, ℕ, ◌+◌, ◌-◌, ◌*◌, ◌/◌, ◌^◌, ◌<◌, ◌≤◌, Bool, true, false, List, [], ◌∷◌, ◌++◌, map, length, take, drop, slice_index}
+use Rattle.std.specs.Prelude.{◌≡◌, ℕ, ◌+◌, ◌-◌, ◌*◌, ◌/◌, ◌^◌, ◌<◌, ◌≤◌, List, [], ◌∷◌, ◌++◌, map, length, take, drop, slice_index, slice_index_or, Some, None, Option, Ok, Err, Result}
 use Rattle.std.specs.List.{range_with_len}
-use Rattle.clauses.specs.declared.store.Store.{Store}
-use Rattle.clauses.specs.Formulas.{Assignment, value, Models}
+use Rattle.clauses.specs.declared.store.Unfit.{Unfit}
+use Rattle.clauses.specs.declared.store.Unfit.TheVariants.{Literal, Room}
+use Rattle.clauses.specs.Formulas.{Assignment, Satisfies, Models}
+use Rattle.clauses.specs.Views.{ClausesView, StoreView}
 
 unfoldable pub from : List ℕ → ℕ → ℕ
 from spans k = slice_index spans (2 * k)
@@ -17,10 +19,7 @@ clause spans words k = take (to spans k - from spans k) (drop (from spans k) wor
 unfoldable pub formula : List ℕ → List ℕ → ℕ → List (List ℕ)
 formula spans words n = map (λ k. clause spans words k) (range_with_len 0 n)
 
-abbrev pub formula_of : Store → List (List ℕ)
-formula_of s = formula s.spans.now s.words.now s.count
-
--- what every store keeps: each clause lies within what is used, and every literal is one of v variables
+-- each clause lies within what is used, and every literal is one of v variables
 pub record Stored (v : ℕ) (spans words : List ℕ) (count used : ℕ) : Type 0 where
   pub spans_room : 2 * count ≤ length spans
   pub words_room : used ≤ length words
@@ -29,50 +28,62 @@ pub record Stored (v : ℕ) (spans words : List ℕ) (count used : ℕ) : Type 0
   pub inside : (k : ℕ) → k < count → to spans k ≤ used
   pub known : (p : ℕ) → p < used → slice_index words p / 2 < v
 
-abbrev pub StoredS : ℕ → Store → Type 0
-StoredS v s = Stored v s.spans.now s.words.now s.count s.used
+-- spans of which each ends not before it begins, and not behind n words
+abbrev pub AreSpans : List ℕ → ℕ → Type 0
+AreSpans spans n = (k : ℕ) → k < length spans / 2 → (from spans k ≤ to spans k) × (to spans k ≤ n)
 
--- a literal that stands between two places is true
-pub record SomeTrue (α : Assignment) (words : List ℕ) (i e : ℕ) : Type 0 where
-  pub at : ℕ
-  pub low : i ≤ at
-  pub high : at < e
-  pub holds : value α (slice_index words at) ≡ true
+-- all spans and words are clauses
+abbrev pub Clauses : ℕ → List ℕ → List ℕ → Type 0
+Clauses v spans words = Stored v spans words (length spans / 2) (length words)
 
--- every model of the formula f satisfies every clause of the store
-pub record Sound (f : List (List ℕ)) (v : ℕ) (spans words : List ℕ) (count used : ℕ) : Type 0 where
-  pub stored : Stored v spans words count used
-  pub follows : (k : ℕ) → k < count → (α : Assignment) → Models f α → SomeTrue α words (from spans k) (to spans k)
+-- which ones, or that they are none
+pub record Parsed (v : ℕ) (spans words : List ℕ) (c : ClausesView) : Type 0 where
+  pub clauses : Clauses v spans words
+  pub variables : c.variables ≡ v
+  pub formula : c.formula ≡ formula spans words (length spans / 2)
 
-abbrev pub SoundS : List (List ℕ) → ℕ → Store → Type 0
-SoundS f v s = Sound f v s.spans.now s.words.now s.count s.used
+abbrev pub ParsedIf : ℕ → List ℕ → List ℕ → Option ClausesView → Type 0
+ParsedIf v spans words None = Clauses v spans words → ⊥
+ParsedIf v spans words (Some c) = Parsed v spans words c
 
--- one clause more, and the rest as it was; or refused, and nothing changed
-pub record Added (v : ℕ) (c : List ℕ) (s t : Store) : Type 0 where
-  pub stored : StoredS v t
-  pub formula : formula_of t ≡ formula_of s ++ (c ∷ [])
-  pub count : t.count ≡ s.count + 1
+-- clause k of a formula
+abbrev pub clause_at : List (List ℕ) → ℕ → List ℕ
+clause_at f k = slice_index_or f k []
+
+-- every literal of a clause is one of v variables
+abbrev pub Known : ℕ → List ℕ → Type 0
+Known v c = (j : ℕ) → j < length c → slice_index c j / 2 < v
+
+-- every model of the formula f satisfies a clause
+abbrev pub Follows : List (List ℕ) → List ℕ → Type 0
+Follows f c = (α : Assignment) → Models f α → Satisfies α c
+
+-- and each clause of g
+abbrev pub Sound : List (List ℕ) → List (List ℕ) → Type 0
+Sound f g = (k : ℕ) → k < length g → Follows f (clause_at g k)
+
+-- a store in the same memory
+pub record SameMemory (s t : StoreView) : Type 0 where
+  pub variables : t.variables ≡ s.variables
+  pub spans_size : t.spans_size ≡ s.spans_size
+  pub words_size : t.words_size ≡ s.words_size
+
+-- there is room for one clause of n literals more
+pub record Fits (s : StoreView) (n : ℕ) : Type 0 where
+  pub spans : 2 * (length s.formula + 1) ≤ s.spans_size
+  pub words : s.used + n ≤ s.words_size
+  pub small : s.used + n < 2 ^ 32
+
+-- one clause more, and the rest as it was
+pub record Added (c : List ℕ) (s t : StoreView) : Type 0 where
+  pub known : Known s.variables c
+  pub fits : Fits s (length c)
+  pub formula : t.formula ≡ s.formula ++ (c ∷ [])
   pub used : t.used ≡ s.used + length c
+  pub memory : SameMemory s t
 
-pub record Same (s t : Store) : Type 0 where
-  pub spans : t.spans.now ≡ s.spans.now
-  pub words : t.words.now ≡ s.words.now
-  pub count : t.count ≡ s.count
-  pub used : t.used ≡ s.used
-
--- in the same memory, the clauses that were there are as they were, and others may stand behind them
-pub record Grown (s t : Store) : Type 0 where
-  pub spans_named : t.spans.ghost_name ≡ s.spans.ghost_name
-  pub words_named : t.words.ghost_name ≡ s.words.ghost_name
-  pub spans : (p : ℕ) → p < 2 * s.count → slice_index t.spans.now p ≡ slice_index s.spans.now p
-  pub words : (p : ℕ) → p < s.used → slice_index t.words.now p ≡ slice_index s.words.now p
-  pub count : s.count ≤ t.count
-  pub used : s.used ≤ t.used
-
--- a clause is refused if a literal is of no variable, or for want of room
-abbrev pub Fits : ℕ → List ℕ → Store → Type 0
-Fits v c s = ((j : ℕ) → j < length c → slice_index c j / 2 < v) × (2 * (s.count + 1) ≤ length s.spans.now) × (s.used + length c ≤ length s.words.now) × (s.used + length c < 2 ^ 32)
-
-abbrev pub AddedIf : ℕ → List ℕ → Store → Store → Bool → Type 0
-AddedIf v c s t true = Fits v c s × Added v c s t
-AddedIf v c s t false = (Fits v c s → ⊥) × Same s t
+-- a clause is refused only if a literal is of no variable, or for want of room; then nothing changes
+abbrev pub AddedIf : List ℕ → StoreView → StoreView → Result (Unit {0}) Unfit → Type 0
+AddedIf c s t (Ok _) = Added c s t
+AddedIf c s t (Err Literal) = (Known s.variables c → ⊥) × (t ≡ s)
+AddedIf c s t (Err Room) = (Fits s (length c) → ⊥) × (t ≡ s)

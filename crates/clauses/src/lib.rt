@@ -4,10 +4,13 @@
 ghost use Rattle.std.specs.Prelude.{◌≡◌};
 ghost use Rattle.clauses.specs.Formulas.{negation};
 
-// Clauses, added one by one; their literals are never moved or swapped.
+// Clauses that stand in memory.
+mod list;
+// Clauses that are added one by one.
 mod store;
 
-pub use store::Store;
+pub use list::{Clauses, all_known};
+pub use store::{Store, Unfit};
 
 // The opposite of a literal.
 pub fn negated(literal: u32) -> u32

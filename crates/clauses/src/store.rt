@@ -1,74 +1,107 @@
-// A store has the literals of its clauses one after the other, and for each clause two words: where
-// its literals begin and where they end.
-ghost use Rattle.std.specs.Prelude.{◌≡◌, ℕ, ◌+◌, ◌*◌, ◌/◌, ◌<◌, true, false, length, slice_index};
-ghost use Rattle.clauses.specs.Stores.{from, to, StoredS, AddedIf, Grown};
+// Clauses that are added one by one, in memory that is lent.
+ghost use Rattle.std.specs.Prelude.{◌≡◌, ◌*◌, ◌<◌, ◌≤◌, [], length};
+ghost use Rattle.clauses.specs.Stores.{clause_at, Known, AddedIf};
+
+use super::list::{Clauses, all_known};
+use std::marker::Model;
 
 #[derive(Drop)]
 pub struct Store<'a> {
-    pub spans: &'a mut [u32],
-    pub words: &'a mut [u32],
-    pub count: usize,
-    pub used: usize,
+    variables: usize,
+    spans: &'a mut [u32],
+    words: &'a mut [u32],
+    count: usize,
+    used: usize,
 }
 
-// Whether every literal is one of so many variables.
-fn all_known(clause: &[u32], variables: usize) -> bool
-    ensures yes { result ≡ true → (j : ℕ) → j < length clause.now → slice_index clause.now j / 2 < variables }
-    ensures no { result ≡ false → ((j : ℕ) → j < length clause.now → slice_index clause.now j / 2 < variables) → ⊥ }
-{
-    for literal in clause {
-        if (*literal / 2) as usize >= variables {
-            return false;
+impl<'a> Model for Store<'a> {
+    ghost use Rattle.clauses.specs.Views.{StoreView};
+
+    ghost Value = { StoreView };
+
+    ghost use Rattle.clauses.specs.Keeping.{store_view, IsStored};
+
+    ghost view = { store_view };
+
+    ghost invariant = { IsStored };
+}
+
+// Why a clause is refused: a literal is of no variable, or there is no room.
+#[derive(Clone, Copy, PartialEq, Eq, Debug)]
+pub enum Unfit {
+    Literal,
+    Room,
+}
+
+impl<'a> Store<'a> {
+    // No clauses yet.
+    pub fn new(variables: usize, spans: &'a mut [u32], words: &'a mut [u32]) -> Store<'a>
+        ensures variables { result.variables ≡ variables }
+        ensures formula { result.formula ≡ [] }
+        ensures used { result.used ≡ 0 }
+        ensures spans { result.spans_size ≡ length spans.old }
+        ensures words { result.words_size ≡ length words.old }
+    {
+        Store {
+            variables,
+            spans,
+            words,
+            count: 0,
+            used: 0,
         }
     }
-    true
 }
 
 impl Store<'_> {
-    // Where the literals of a clause begin, and where they end.
-    pub fn from(&self, clause: usize) -> usize
-        requires { 2 * clause < length self.now.spans.now }
-        ensures { result ≡ from self.now.spans.now clause }
+    // The clauses, to be read.
+    pub fn clauses(&self) -> Clauses<'_>
+        ensures variables { result.variables ≡ self.now.variables }
+        ensures formula { result.formula ≡ self.now.formula }
     {
-        self.spans[2 * clause] as usize
+        Clauses::new(
+            self.variables,
+            self.spans,
+            &self.words[..self.used],
+            self.count,
+        )
     }
 
-    pub fn to(&self, clause: usize) -> usize
-        requires { 2 * clause + 1 < length self.now.spans.now }
-        ensures { result ≡ to self.now.spans.now clause }
+    pub fn len(&self) -> usize
+        ensures is { result ≡ length self.now.formula }
+        ensures few { 2 * result ≤ self.now.spans_size }
     {
-        self.spans[2 * clause + 1] as usize
+        self.count
     }
 
-    // Adds a clause of so many variables' literals; false, and nothing changed, where it is none or
-    // finds no room.
-    pub fn add(&mut self, variables: usize, clause: &[u32]) -> bool
-        requires { StoredS variables self.old }
-        ensures added { AddedIf variables clause.now self.old self.new result }
-        ensures spans_named { self.new.spans.ghost_name ≡ self.old.spans.ghost_name }
-        ensures words_named { self.new.words.ghost_name ≡ self.old.words.ghost_name }
-        ensures spans_size { length self.new.spans.now ≡ length self.old.spans.now }
-        ensures words_size { length self.new.words.now ≡ length self.old.words.now }
-        ensures grown { Grown self.old self.new }
+    pub fn clause(&self, number: usize) -> &[u32]
+        requires { number < length self.now.formula }
+        ensures is { result.now ≡ clause_at self.now.formula number }
+        ensures known { Known self.now.variables result.now }
     {
-        if !all_known(clause, variables) {
-            return false;
+        self.clauses().clause(number)
+    }
+
+    // Adds a clause; where it is refused, nothing changes.
+    pub fn add(&mut self, clause: &[u32]) -> Result<(), Unfit>
+        ensures { AddedIf clause.now self.old self.new result }
+    {
+        if !all_known(clause, self.variables) {
+            return Err(Unfit::Literal);
         }
-        let at = self.count;
         let begin = self.used;
-        let spans = self.spans.len();
-        let words = self.words.len();
-        if at >= spans / 2 || clause.len() > words - begin || clause.len() > 0xffff_ffff - begin {
-            return false;
+        let room = (self.words.len() - begin).min(0xffff_ffff - begin);
+        if clause.len() > room {
+            return Err(Unfit::Room);
+        }
+        if self.count >= self.spans.len() / 2 {
+            return Err(Unfit::Room);
         }
         let end = begin + clause.len();
-        for place in 0..clause.len() {
-            self.words[begin + place] = clause[place];
-        }
-        self.spans[2 * at] = begin as u32;
-        self.spans[2 * at + 1] = end as u32;
-        self.count = at + 1;
+        self.words[begin..end].copy_from_slice(clause);
+        self.spans[2 * self.count] = begin as u32;
+        self.spans[2 * self.count + 1] = end as u32;
+        self.count += 1;
         self.used = end;
-        true
+        Ok(())
     }
 }

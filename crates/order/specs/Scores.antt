@@ -2,7 +2,7 @@
 use Rattle.std.specs.Prelude.{◌≡◌, ℕ, ◌%◌, ◌^◌, ◌≤◌, ◌⊎◌}
 
 -- zero, or the mantissa's top bit is set
-unfoldable pub Score : ℕ → Type 0
+abbrev pub Score : ℕ → Type 0
 Score w = (w ≡ 0) ⊎ (2 ^ 23 ≤ w % 2 ^ 24)
 
 -- an activity that is not lower

@@ -3,9 +3,10 @@
 // That heap and places agree is not proved: where a place is taken for an index, it is compared first.
 ghost use Rattle.std.specs.Prelude.{◌≡◌, ℕ, ◌+◌, ◌^◌, ◌<◌, ◌≤◌, length, slice_index};
 ghost use Rattle.order.specs.Scores.{Score};
-ghost use Rattle.order.specs.Orders.{Ordered, Kept, Popped, variables};
+ghost use Rattle.order.specs.Queues.{Popped};
 
 use super::score::{grown, shrunk, sum};
+use std::marker::Model;
 
 // What the first conflict adds to an activity.
 const FIRST_STEP: u32 = 0x0080_0000;
@@ -17,7 +18,7 @@ const PART: u32 = 19;
 #[derive(Drop)]
 pub struct Order<'a> {
     // The activity of each variable.
-    pub scores: &'a mut [u32],
+    scores: &'a mut [u32],
     // Variables, of which the first are in the heap, as many as the count says.
     heap: &'a mut [u32],
     // For each variable its place in the heap plus one, and 0 where it is not there.
@@ -27,31 +28,34 @@ pub struct Order<'a> {
     step: u32,
 }
 
-// Makes all words 0.
-pub fn clear(words: &mut [u32])
-    ensures { (k : ℕ) → slice_index words.new k ≡ 0 }
+impl<'a> Model for Order<'a> {
+    ghost use Rattle.order.specs.Queues.{Queue};
+
+    ghost Value = { Queue };
+
+    ghost use Rattle.order.specs.Orders.{queue_of, Ordered};
+
+    ghost view = { queue_of };
+
+    ghost invariant = { Ordered };
+}
+
+// Writes the numbers from the given one on into words.
+fn count_up(words: &mut [u32], from: u32)
+    requires { (length words.old < 2 ^ 31) × (from ≤ 1) }
+    ensures { (k : ℕ) → k < length words.old → slice_index words.new k ≡ k + from }
 {
-    for word in words.iter_mut() {
-        *word = 0;
+    for (at, word) in words.iter_mut().enumerate() {
+        *word = at as u32 + from;
     }
 }
 
-// Writes the numbers from the given one on into so many words.
-fn count_up(words: &mut [u32], count: usize, from: u32)
-    requires { (count ≤ length words.old) × ((count < 2 ^ 31) × (from ≤ 1)) }
-    ensures first { (k : ℕ) → k < count → slice_index words.new k ≡ k + from }
-    ensures rest { (k : ℕ) → count ≤ k → slice_index words.new k ≡ slice_index words.old k }
-{
-    for at in 0..count {
-        words[at] = at as u32 + from;
-    }
-}
-
+// Makes all activities lower by the same factor.
 fn shrink(scores: &mut [u32])
     requires { (k : ℕ) → Score (slice_index scores.old k) }
     ensures { (k : ℕ) → Score (slice_index scores.new k) }
 {
-    for score in scores.iter_mut() {
+    for score in scores {
         *score = shrunk(*score);
     }
 }
@@ -69,13 +73,14 @@ impl<'a> Order<'a> {
         requires heap_long { length heap.old ≡ length scores.old }
         requires places_long { length places.old ≡ length scores.old }
         requires within { decided ≤ length scores.old }
-        ensures ordered { Ordered (length scores.old) result }
-        ensures counted { result.count ≡ decided }
+        ensures variables { result.variables ≡ length scores.old }
+        ensures count { result.count ≡ decided }
+        ensures top { 0 < decided → result.top ≡ 0 }
     {
-        clear(scores);
-        clear(places);
-        count_up(heap, decided, 0);
-        count_up(places, decided, 1);
+        scores.fill(0);
+        places.fill(0);
+        count_up(&mut heap[..decided], 0);
+        count_up(&mut places[..decided], 1);
         Order {
             scores,
             heap,
@@ -87,24 +92,34 @@ impl<'a> Order<'a> {
 }
 
 impl Order<'_> {
+    // How many variables there are.
+    pub fn variables(&self) -> usize
+        ensures is { result ≡ self.now.variables }
+        ensures few { result < 2 ^ 31 }
+    {
+        self.scores.len()
+    }
+
+    // Puts a variable at a place of the heap.
     fn put(&mut self, at: usize, variable: u32)
-        requires ordered { Ordered (variables self.old) self.old }
         requires within { at < self.old.count }
-        requires known { variable < variables self.old }
-        ensures kept { Kept self.old self.new }
+        requires known { variable < self.old.variables }
+        ensures variables { self.new.variables ≡ self.old.variables }
         ensures counted { self.new.count ≡ self.old.count }
     {
+        // This opens the order, whose count bounds the place.
+        prove!(at < self.count);
         self.heap[at] = variable;
         self.places[variable as usize] = at as u32 + 1;
     }
 
     // Moves the variable at a place up past all that are less active.
     fn rise(&mut self, from: usize)
-        requires ordered { Ordered (variables self.old) self.old }
         requires within { from < self.old.count }
-        ensures kept { Kept self.old self.new }
+        ensures variables { self.new.variables ≡ self.old.variables }
         ensures counted { self.new.count ≡ self.old.count }
     {
+        prove!(from < self.count);
         let variable = self.heap[from];
         let score = self.scores[variable as usize];
         let mut at = from;
@@ -122,10 +137,10 @@ impl Order<'_> {
 
     // Of a place and the next one, that of the more active variable.
     fn more_active(&self, at: usize) -> usize
-        requires ordered { Ordered (variables self.now) self.now }
         requires within { at < self.now.count }
         ensures { (at ≤ result) × (result < self.now.count) }
     {
+        prove!(at < self.count);
         let next = at + 1;
         if next == self.count {
             return at;
@@ -137,9 +152,8 @@ impl Order<'_> {
 
     // Moves the variable on top down past all that are more active.
     fn sink(&mut self)
-        requires ordered { Ordered (variables self.old) self.old }
         requires within { 0 < self.old.count }
-        ensures kept { Kept self.old self.new }
+        ensures variables { self.new.variables ≡ self.old.variables }
         ensures counted { self.new.count ≡ self.old.count }
     {
         let variable = self.heap[0];
@@ -160,9 +174,8 @@ impl Order<'_> {
     // Takes a variable in, unless it is there. The heap has room for all, and is compared with its
     // length in place of a proof that no variable stands in it twice.
     pub fn insert(&mut self, variable: u32)
-        requires ordered { Ordered (variables self.old) self.old }
-        requires known { variable < variables self.old }
-        ensures kept { Kept self.old self.new }
+        requires known { variable < self.old.variables }
+        ensures variables { self.new.variables ≡ self.old.variables }
         ensures counted { (self.old.count ≤ self.new.count) × (self.new.count ≤ self.old.count + 1) }
     {
         let at = self.count;
@@ -175,8 +188,7 @@ impl Order<'_> {
 
     // Takes the variable on top out, which is the most active.
     pub fn pop(&mut self) -> Option<u32>
-        requires ordered { Ordered (variables self.old) self.old }
-        ensures kept { Kept self.old self.new }
+        ensures variables { self.new.variables ≡ self.old.variables }
         ensures popped { Popped self.old self.new result }
     {
         if self.count == 0 {
@@ -194,8 +206,7 @@ impl Order<'_> {
 
     // Divides all activities and the step by the same number, which leaves their order as it is.
     fn rescale(&mut self)
-        requires ordered { Ordered (variables self.old) self.old }
-        ensures kept { Kept self.old self.new }
+        ensures variables { self.new.variables ≡ self.old.variables }
         ensures counted { self.new.count ≡ self.old.count }
     {
         shrink(self.scores);
@@ -204,9 +215,8 @@ impl Order<'_> {
 
     // Makes a variable more active by the step.
     pub fn bump(&mut self, variable: u32)
-        requires ordered { Ordered (variables self.old) self.old }
-        requires known { variable < variables self.old }
-        ensures kept { Kept self.old self.new }
+        requires known { variable < self.old.variables }
+        ensures variables { self.new.variables ≡ self.old.variables }
         ensures counted { self.new.count ≡ self.old.count }
     {
         let score = sum(self.scores[variable as usize], self.step);
@@ -222,8 +232,7 @@ impl Order<'_> {
 
     // Makes what is bumped from now on count for more, which is to let all activities fade.
     pub fn decay(&mut self)
-        requires ordered { Ordered (variables self.old) self.old }
-        ensures kept { Kept self.old self.new }
+        ensures variables { self.new.variables ≡ self.old.variables }
         ensures counted { self.new.count ≡ self.old.count }
     {
         self.step = grown(self.step, PART);

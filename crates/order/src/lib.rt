@@ -8,5 +8,5 @@ mod score;
 // The variables that are to be decided, the most active on top, in lent memory.
 mod heap;
 
-pub use heap::{Order, clear};
+pub use heap::Order;
 pub use score::{grown, shrunk, sum};

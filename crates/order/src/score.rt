@@ -8,12 +8,11 @@ ghost use Rattle.order.specs.Scores.{Score, Raised, Lowered};
 const EXPONENT: u32 = 0x0100_0000;
 // How many bits a mantissa has: it is moved by fewer, or nothing is left of it.
 const MANTISSA_BITS: u32 = 24;
-// The largest activity: sums that would pass it stop there.
-const LARGEST: u32 = 0xffff_ffff;
 // What shrinking takes off: 128 of the exponent.
 const SHRINK: u32 = 0x8000_0000;
 
 // The activity with so much more in its mantissa: a carry halves it and makes the exponent one more.
+// A sum that would pass the largest word stops there.
 fn raised(score: u32, more: u32) -> u32
     requires formed { Score score }
     requires small { more < 2 ^ 24 }
@@ -24,8 +23,8 @@ fn raised(score: u32, more: u32) -> u32
     let mantissa = score % EXPONENT + more;
     if mantissa < EXPONENT {
         score + more
-    } else if exponent == LARGEST / EXPONENT {
-        LARGEST
+    } else if exponent == u32::MAX / EXPONENT {
+        u32::MAX
     } else {
         (exponent + 1) * EXPONENT + mantissa / 2
     }
@@ -50,11 +49,7 @@ pub fn sum(one: u32, other: u32) -> u32
     requires { (Score one) × (Score other) }
     ensures { (Raised one result) × (Raised other result) }
 {
-    if one < other {
-        added(other, one)
-    } else {
-        added(one, other)
-    }
+    added(one.max(other), one.min(other))
 }
 
 // The activity and a part of it more: times 1 + 1 / part.

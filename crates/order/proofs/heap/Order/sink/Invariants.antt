@@ -1,13 +1,13 @@
 use Rattle.std.proofs.Common.{◌≡◌, ◌-◌, ◌<◌}
-use Rattle.order.specs.Orders.{Kept}
 use Rattle.order.proofs.heap.Order.sink.Given as goal
 
 abbrev pub invariant-loop-at : goal.invariant-loop-at
 invariant-loop-at l = record {
-  kept : Kept l.initial.self l.self;
+  variables : l.self.variables ≡ l.initial.self.variables;
   counted : l.self.count ≡ l.initial.self.count;
   within : l.at < l.self.count;
+  known : l.variable < l.self.variables;
 }
 
 abbrev pub decreases-loop-at : goal.decreases-loop-at
-decreases-loop-at l = l.initial.self.count - l.at
+decreases-loop-at l = l.self.count - l.at

@@ -1,0 +1,6 @@
+use Rattle.std.proofs.Common.{sym}
+use Rattle.clauses.proofs.Literals.{formula_long}
+use Rattle.clauses.proofs.list.Clauses.len.Goals as goal
+
+pub returns : goal.returns
+returns c = rw (← c.self.view_is) (sym (formula_long c.self.inside.spans.now c.self.inside.words.now c.self.inside.count))

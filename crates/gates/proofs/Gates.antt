@@ -3,7 +3,7 @@ use Rattle.std.proofs.Common.{◌≡◌, ℕ, ◌+◌, ◌*◌, ◌<◌, Bool, L
 use Rattle.clauses.specs.Formulas.{Assignment}
 use Rattle.gates.specs.declared.folding.Inputs.{Inputs}
 use Rattle.gates.specs.Words.{mix, output, Goes, Grows, Adds, Gives}
-use Rattle.gates.specs.Circuits.{Reordered, Folded, Stands}
+use Rattle.gates.specs.Circuits.{Reordered, Stands}
 use Rattle.gates.proofs.Literals.{value_even}
 use Rattle.gates.proofs.Triples.{Put}
 
@@ -31,10 +31,6 @@ grows_on r s = record { same = s.same ∙ r.same; more = omega (arith, r.more, s
 
 pub adds_none : {b : ℕ} {g : List ℕ} {n : ℕ} {t : List ℕ} {c : ℕ} → (most : ℕ) → Adds b g n t c b g n t c most
 adds_none most = record { grew = grows_not; few = omega arith }
-
--- a literal that there is, in place of the gate
-pub folded_gives : (b : ℕ) (g : List ℕ) (n p x y l : ℕ) → Folded p x y l → p < 2 * (b + n) → x < 2 * (b + n) → y < 2 * (b + n) → Gives b g n l (λ α. mix α p x y)
-folded_gives b g n p x y l f hp hx hy = record { low = f.low (2 * (b + n)) hp hx hy; is = λ α o. f.is α o.top }
 
 -- a gate that there is
 pub stands_gives : (b : ℕ) (g : List ℕ) (n p x y k : ℕ) → Stands g n p x y k → Gives b g n (2 * (b + k)) (λ α. mix α p x y)

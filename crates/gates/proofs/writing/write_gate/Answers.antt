@@ -1,3 +1,4 @@
+use Rattle.std.proofs.Common.{rules}
 use Rattle.gates.proofs.Clauses.{negated_known, two_low, three_low, gate_writes}
 use Rattle.gates.proofs.writing.write_gate.Goals as goal
 
@@ -17,7 +18,7 @@ write_clause-requires-3 c =
 pub write_clause-requires-4 : goal.write_clause-requires-4
 write_clause-requires-4 c =
     let v = c.in_ok-write_clause.ensures.memory.variables in let v' = c.in_ok-write_clause-2.ensures.memory.variables in let v'' = c.in_ok-write_clause-3.ensures.memory.variables in
-    rw (v'', v', v) (three_low _ _ _ _ (negated_known _ _ _ c.negated-not.ensures c.requires.gate) c.requires.p c.requires.y)
+    rw (v'', v', v) (three_low _ _ _ _ (negated_known _ _ _ c.negated-not.ensures c.requires.gate) c.requires.p (search rules))
 
 pub returns : goal.returns
 returns c =

@@ -1,12 +1,14 @@
 // One pair of a relation that is made of others: a gate, or a chain of gates over the things.
-ghost use Rattle.std.specs.Prelude.{◌*◌, ◌/◌, ◌%◌, ◌<◌, ◌≤◌};
+ghost use Rattle.std.specs.Prelude.{◌≡◌, ◌+◌, ◌*◌, ◌<◌, slice_index};
 ghost use Rattle.descriptions.specs.Pictures.{any, compose};
 ghost use Rattle.descriptions.specs.Meaning.{combine};
 ghost use Rattle.gates.specs.Circuits.{AddsC, GivesC, Came};
 ghost use Rattle.tables.specs.Tables.{shown, FilledC, made, binary_cost, way_cost, Known};
 
+use crate::chains::some_both;
+use crate::plain::{ALWAYS, NEVER};
 use clauses::negated;
-use descriptions::Binary;
+use descriptions::{Binary, Pair, Size};
 use gates::Circuit;
 
 // By an operator on two relations; turned round; what stands first in a pair; by way of a thing, too.
@@ -18,110 +20,104 @@ pub enum Way {
     Through(usize),
 }
 
+// The literal of a pair of things.
+fn literal_at(table: &[u32; 64], size: Size, first: usize, second: usize) -> u32
+    requires { (first < size.things) × (second < size.things) }
+    ensures { result ≡ slice_index table.now (first * size.things + second) }
+{
+    table[first * size.things + second]
+}
+
 // Some thing is reached from the first by one relation, and leads to the second by the other.
 fn joins(
     circuit: &mut Circuit,
-    one: &[u32],
-    other: &[u32],
-    things: usize,
-    first: usize,
-    second: usize,
+    one: &[u32; 64],
+    other: &[u32; 64],
+    size: Size,
+    pair: Pair,
 ) -> Option<u32>
-    requires sound { SoundC circuit.old }
-    requires few { things ≤ 8 }
-    requires one { FilledC circuit.old things one.now }
-    requires other { FilledC circuit.old things other.now }
-    requires first { first < things }
-    requires second { second < things }
-    ensures adds { AddsC circuit.old circuit.new things }
-    ensures came { Came circuit.new result (λ l. GivesC circuit.new l (λ α. compose things (shown α things one.now) (shown α things other.now) first second)) }
+    requires one { FilledC circuit.old size.things one.now }
+    requires other { FilledC circuit.old size.things other.now }
+    requires inside { (pair.first < size.things) × (pair.second < size.things) }
+    ensures adds { AddsC circuit.old circuit.new size.things }
+    ensures came { Came circuit.new result (λ l. GivesC circuit.new l (λ α. compose size.things (shown α size.things one.now) (shown α size.things other.now) pair.first pair.second)) }
 {
-    let mut found = 1;
-    for between in 0..things {
-        found = circuit.gate(
-            found,
-            one[first * things + between],
-            other[between * things + second],
-        )?;
-    }
-    Some(found)
+    some_both(circuit, size.things, |between| {
+        (
+            literal_at(one, size, pair.first, between),
+            literal_at(other, size, between, pair.second),
+        )
+    })
 }
 
 // A thing stands first in some pair.
-fn leads(circuit: &mut Circuit, one: &[u32], things: usize, first: usize) -> Option<u32>
-    requires sound { SoundC circuit.old }
-    requires few { things ≤ 8 }
-    requires one { FilledC circuit.old things one.now }
-    requires first { first < things }
-    ensures adds { AddsC circuit.old circuit.new things }
-    ensures came { Came circuit.new result (λ l. GivesC circuit.new l (λ α. any things (λ k. shown α things one.now first k))) }
+fn leads(circuit: &mut Circuit, one: &[u32; 64], size: Size, first: usize) -> Option<u32>
+    requires one { FilledC circuit.old size.things one.now }
+    requires inside { first < size.things }
+    ensures adds { AddsC circuit.old circuit.new size.things }
+    ensures came { Came circuit.new result (λ l. GivesC circuit.new l (λ α. any size.things (λ k. shown α size.things one.now first k))) }
 {
-    let mut found = 1;
-    for second in 0..things {
-        found = circuit.gate(found, 0, one[first * things + second])?;
-    }
-    Some(found)
+    some_both(circuit, size.things, |second| {
+        (ALWAYS, literal_at(one, size, first, second))
+    })
 }
 
 // One pair of what an operator makes of two relations.
 fn operator_pair(
     circuit: &mut Circuit,
     operator: Binary,
-    one: &[u32],
-    other: &[u32],
-    things: usize,
-    place: usize,
+    one: &[u32; 64],
+    other: &[u32; 64],
+    size: Size,
+    pair: Pair,
 ) -> Option<u32>
-    requires sound { SoundC circuit.old }
-    requires few { things ≤ 8 }
-    requires one { FilledC circuit.old things one.now }
-    requires other { FilledC circuit.old things other.now }
-    requires place { place < things * things }
-    ensures adds { AddsC circuit.old circuit.new (binary_cost operator things) }
-    ensures came { Came circuit.new result (λ l. GivesC circuit.new l (λ α. combine operator things (shown α things one.now) (shown α things other.now) (place / things) (place % things))) }
+    requires one { FilledC circuit.old size.things one.now }
+    requires other { FilledC circuit.old size.things other.now }
+    requires inside { (pair.first < size.things) × (pair.second < size.things) }
+    ensures adds { AddsC circuit.old circuit.new (binary_cost operator size.things) }
+    ensures came { Came circuit.new result (λ l. GivesC circuit.new l (λ α. combine operator size.things (shown α size.things one.now) (shown α size.things other.now) pair.first pair.second)) }
 {
+    let here = literal_at(one, size, pair.first, pair.second);
+    let there = literal_at(other, size, pair.first, pair.second);
     match operator {
-        Binary::Union => circuit.gate(one[place], 0, other[place]),
-        Binary::Intersection => circuit.gate(1, one[place], other[place]),
-        Binary::Difference => circuit.gate(1, one[place], negated(other[place])),
-        Binary::Composition => joins(circuit, one, other, things, place / things, place % things),
+        Binary::Union => circuit.gate(here, ALWAYS, there),
+        Binary::Intersection => circuit.gate(NEVER, here, there),
+        Binary::Difference => circuit.gate(NEVER, here, negated(there)),
+        Binary::Composition => joins(circuit, one, other, size, pair),
     }
 }
 
 // One pair of a relation that is made of others.
-pub fn pair(
+pub fn made_pair(
     circuit: &mut Circuit,
     way: Way,
-    one: &[u32],
-    other: &[u32],
-    things: usize,
-    place: usize,
+    one: &[u32; 64],
+    other: &[u32; 64],
+    size: Size,
+    pair: Pair,
 ) -> Option<u32>
-    requires sound { SoundC circuit.old }
-    requires few { things ≤ 8 }
-    requires one { FilledC circuit.old things one.now }
-    requires other { FilledC circuit.old things other.now }
-    requires way { Known things way }
-    requires place { place < things * things }
-    ensures adds { AddsC circuit.old circuit.new (way_cost way things) }
-    ensures came { Came circuit.new result (λ l. GivesC circuit.new l (λ α. made way things (shown α things one.now) (shown α things other.now) (place / things) (place % things))) }
+    requires one { FilledC circuit.old size.things one.now }
+    requires other { FilledC circuit.old size.things other.now }
+    requires way { Known size.things way }
+    requires inside { (pair.first < size.things) × (pair.second < size.things) }
+    ensures adds { AddsC circuit.old circuit.new (way_cost way size.things) }
+    ensures came { Came circuit.new result (λ l. GivesC circuit.new l (λ α. made way size.things (shown α size.things one.now) (shown α size.things other.now) pair.first pair.second)) }
 {
-    let first = place / things;
-    let second = place % things;
+    let Pair { first, second } = pair;
     match way {
-        Way::Of(operator) => operator_pair(circuit, operator, one, other, things, place),
-        Way::Converse => Some(one[second * things + first]),
+        Way::Of(operator) => operator_pair(circuit, operator, one, other, size, pair),
+        Way::Converse => Some(literal_at(one, size, second, first)),
         Way::Domain => {
             if first == second {
-                leads(circuit, one, things, first)
+                leads(circuit, one, size, first)
             } else {
-                Some(1)
+                Some(NEVER)
             }
         }
         Way::Through(thing) => circuit.gate(
-            one[place],
-            one[first * things + thing],
-            one[thing * things + second],
+            literal_at(one, size, first, second),
+            literal_at(one, size, first, thing),
+            literal_at(one, size, thing, second),
         ),
     }
 }

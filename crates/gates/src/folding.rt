@@ -5,6 +5,11 @@ ghost use Rattle.gates.specs.Circuits.{Reordered, Folds};
 
 use clauses::negated;
 
+// The literals that are always and never true.
+pub const ALWAYS: u32 = 0;
+
+pub const NEVER: u32 = 1;
+
 // The three literals of a gate.
 #[derive(Clone, Copy, PartialEq, Eq)]
 pub struct Inputs {
@@ -34,7 +39,7 @@ impl Inputs {
         ensures { Reordered self.p self.x self.y result }
     {
         let Inputs { p, x, y } = self;
-        if x == 0 && y < p {
+        if x == ALWAYS && y < p {
             Inputs { p: y, x, y: p }
         } else {
             self
@@ -58,17 +63,17 @@ impl Inputs {
         ensures { Folds self.p self.x self.y result }
     {
         let Inputs { p, x, y } = self;
-        if p == 0 || p == x || p == y {
+        if p == ALWAYS || p == x || p == y {
             return Some(p);
         }
-        if x == 1 || y == 1 || x == negated(y) {
+        if x == NEVER || y == NEVER || x == negated(y) {
             return Some(p);
         }
-        if p == 1 {
-            if x == 0 || x == y {
+        if p == NEVER {
+            if x == ALWAYS || x == y {
                 return Some(y);
             }
-            if y == 0 {
+            if y == ALWAYS {
                 return Some(x);
             }
         }

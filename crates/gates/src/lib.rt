@@ -13,6 +13,7 @@ mod circuit;
 mod writing;
 
 pub use circuit::Circuit;
+pub use folding::{ALWAYS, NEVER};
 
 // Each choice of the inputs, with variable 0 true, has one extension that goes with the gates.
 pub fn extension_is_one()

@@ -7,7 +7,7 @@ ghost use Rattle.gates.specs.Words.{mix, Meets};
 ghost use Rattle.gates.specs.Writing.{satisfied, WritesIf, WrittenIf, Valued};
 
 use crate::circuit::Circuit;
-use crate::folding::Inputs;
+use crate::folding::{ALWAYS, Inputs};
 use clauses::{Store, Unfit, negated};
 
 // One clause.
@@ -64,7 +64,7 @@ impl Circuit<'_> {
         requires empty { (store.old.formula ≡ []) × (store.old.used ≡ 0) }
         ensures { WrittenIf self.now store.old store.new result }
     {
-        write_clause(store, &[0])?;
+        write_clause(store, &[ALWAYS])?;
         self.write_gates(store)?;
         self.write_claims(store)
     }

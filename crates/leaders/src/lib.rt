@@ -13,11 +13,8 @@ mod transpositions;
 
 use clauses::negated;
 use descriptions::Shape;
-use gates::Circuit;
+use gates::{Circuit, NEVER};
 pub use transpositions::Transposition;
-
-// The literal that is never true.
-const NEVER: u32 = 1;
 
 // One link of a chain: claims that something before was smaller already, or the bit here is not larger than the one that
 // comes here, and gives the literal of 'smaller already' for the next link. None where there is no room.

@@ -4,8 +4,7 @@ ghost use Rattle.descriptions.specs.Pictures.{any};
 ghost use Rattle.clauses.specs.Formulas.{value};
 ghost use Rattle.gates.specs.Circuits.{InC, AddsC, GivesC, Came};
 
-use crate::plain::NEVER;
-use gates::Circuit;
+use gates::{Circuit, NEVER};
 
 // The literal of 'of some of so many pairs of literals, both are true'.
 pub fn some_both<F: Fn(usize) -> (u32, u32)>(

@@ -8,10 +8,9 @@ ghost use Rattle.tables.specs.Tables.{shown, FilledC, ShowsC, made, way_cost, co
 
 use crate::chains::some_both;
 use crate::pairs::{Way, made_pair};
-use crate::plain::NEVER;
 use clauses::negated;
 use descriptions::{Binary, Size, Unary};
-use gates::Circuit;
+use gates::{Circuit, NEVER};
 
 // All pairs of a relation that is made of others.
 fn all_pairs(

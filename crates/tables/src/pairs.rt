@@ -6,10 +6,9 @@ ghost use Rattle.gates.specs.Circuits.{AddsC, GivesC, Came};
 ghost use Rattle.tables.specs.Tables.{shown, FilledC, made, binary_cost, way_cost, Known};
 
 use crate::chains::some_both;
-use crate::plain::{ALWAYS, NEVER};
 use clauses::negated;
 use descriptions::{Binary, Pair, Size};
-use gates::Circuit;
+use gates::{ALWAYS, Circuit, NEVER};
 
 // By an operator on two relations; turned round; what stands first in a pair; by way of a thing, too.
 #[derive(Clone, Copy)]

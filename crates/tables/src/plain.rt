@@ -3,11 +3,7 @@ ghost use Rattle.std.specs.Prelude.{◌≡◌, ℕ, ◌+◌, ◌*◌, ◌/◌, �
 ghost use Rattle.tables.specs.Tables.{Are};
 
 use descriptions::Size;
-
-// The literals that are always and never true.
-pub const ALWAYS: u32 = 0;
-
-pub const NEVER: u32 = 1;
+use gates::{ALWAYS, NEVER};
 
 fn constant(truth: bool) -> u32
     ensures { result ≡ (if truth then 0 else 1) }

@@ -120,15 +120,7 @@ every_encoded relations things v c d l a f = record { few = f.few; means = recor
 pub every_stands : (x : Shape) (v : Environment) (fine : Sentence → Bool) (s : List ℕ) (at end l : ℕ) (c d : Circuit) (P : Sentence → Type 0) → Stands write_s fine s at end P → EverySays x v s at c d x.size.things l → Stands write_s fine s at end (λ a. EncodesEvery x.relations x.size.things (seen v) c d x.size.things l a)
 every_stands x v fine s at end l c d P b f = record { part = b.part; is_fine = b.is_fine; written = b.written; further = b.further; inside = b.inside; says = f b.part (drop end s) b.written }
 
-pub every_all : (x : Shape) (v : Environment) (s : List ℕ) (at k l : ℕ) (c d : Circuit) → k ≡ x.size.things → EverySays x v s at c d k l → EverySays x v s at c d x.size.things l
-every_all x v s at k l c d e f = subst (λ (z : ℕ). EverySays x v s at c d z l) e f
-
 module _ (x : Shape) (v v' : Environment) (s : List ℕ) (at k l : ℕ) (c d e : Circuit) (inv : EverySays x v s at c d k l) (lt : k < x.size.things) (ext : Extended v k v') where
-  pub every_absent : Absent write_s (fine_s x.relations v'.count) s at (λ a. TooFew d e (size_s x.size.things a)) → Absent write_s (fine_s x.relations (v.count + 1)) s at (λ a. TooFew c e (x.size.things * (size_s x.size.things a + 1)))
-  every_absent f a t ok p =
-      let y = f a t (subst (λ (z : ℕ). fine_s x.relations z a ≡ true) (sym ext.counts) ok) p in
-      omega (arith, y, (inv a t p).few, cost_last k x.size.things (size_s x.size.things a + 1) lt)
-
   module _ (g : Circuit) (end n : ℕ) (one : Stands write_s (fine_s x.relations v'.count) s at end (λ a. EncodesS x.relations x.size.things (seen v') d e n a)) (ad : AddsC e g 1) where
     now_encoded : (a : Sentence) (t : List ℕ) → drop at s ≡ write_s a ++ t → EncodesS x.relations x.size.things (k ∷ seen v) d e n a
     now_encoded a t p = subst (λ (w : List ℕ). EncodesS x.relations x.size.things w d e n a) ext.newest (stands_one write_s (fine_s x.relations v'.count) s at end _ unique_s one a t p)

@@ -1,5 +1,5 @@
 -- Places of pairs, chains of gates, and tables filled place by place.
-use Rattle.std.proofs.Common.{◌≡◌, ℕ, zero, suc, ◌+◌, ◌*◌, ◌/◌, ◌%◌, ◌<◌, ◌≤◌, Bool, true, false, not, ◌&&◌, ◌||◌, ◌⊎◌, List, length, get_or, set, Some, None, Option, sym, refl, ap, ◌∙◌, subst, inl, inr, mul-le-mul_right, add-mul, one-mul, add-one, arith, length-set}
+use Rattle.std.proofs.Common.{◌≡◌, ℕ, zero, suc, ◌+◌, ◌*◌, ◌/◌, ◌%◌, ◌<◌, ◌≤◌, Bool, true, false, not, ◌&&◌, ◌||◌, ◌⊎◌, List, get_or, set, Some, None, Option, sym, refl, ap, ◌∙◌, subst, inl, inr, mul-le-mul_right, add-mul, one-mul, add-one, arith, length-set}
 use Rattle.std.proofs.lemmas.Nat.{div-mul-add, mod-mul-add, div_below, mod_below, mul-add-lt, div-add-mod'}
 use Rattle.std.proofs.lemmas.List.{get_or-set_same, get_or-set_other}
 use Rattle.std.proofs.lemmas.Bool.{cases_lt}
@@ -47,9 +47,6 @@ module _ {b : ℕ} {g : List ℕ} {n : ℕ} {t : List ℕ} {c : ℕ} {b' : ℕ} 
   pub adds_on : {b'' : ℕ} {g'' : List ℕ} {n'' : ℕ} {t'' : List ℕ} {c'' : ℕ} (x y most : ℕ) → Adds b g n t c b' g' n' t' c' x → Adds b' g' n' t' c' b'' g'' n'' t'' c'' y → x + y ≤ most → Adds b g n t c b'' g'' n'' t'' c'' most
   adds_on x y most r s h = record { grew = grows_on r.grew s.grew; few = omega (arith, r.few, s.few) }
 
-  pub adds_less : (x most : ℕ) → Adds b g n t c b' g' n' t' c' x → x ≤ most → Adds b g n t c b' g' n' t' c' most
-  adds_less x most r h = record { grew = r.grew; few = omega (arith, r.few) }
-
   pub filled_still : {m : ℕ} {u : List ℕ} → Grows b g n t c b' g' n' t' c' → Filled b n m u → Filled b' n' m u
   filled_still r f = record { low = λ i j hi hj. omega (arith, f.low i j hi hj, r.same, r.more) }
 
@@ -81,9 +78,6 @@ chain_on k p x y l f r u e w =
 
 -- place by place
 module _ (f : ℕ → Assignment → Bool) where
-  pub upto_none : (b : ℕ) (g : List ℕ) (n : ℕ) (u : List ℕ) → length u ≡ 64 → Upto b g n 0 u f
-  upto_none b g n u e = record { long = e; each = λ k h. absurd (omega arith) }
-
   pub upto_put : {b : ℕ} {g : List ℕ} {n : ℕ} {t : List ℕ} {c : ℕ} {b' : ℕ} {g' : List ℕ} {n' : ℕ} {t' : List ℕ} {c' : ℕ} (at : ℕ) (u : List ℕ) (l : ℕ) → Grows b g n t c b' g' n' t' c' → at < 64 → Upto b g n at u f → Gives b' g' n' l (f at) → Upto b' g' n' (at + 1) (set u at l) f
   upto_put {b} {g} {n} {t} {c} {b'} {g'} {n'} {t'} {c'} at u l r lt p w = record { long = length-set u at l ∙ p.long; each = λ k h. go k h (cases_lt k at) }
     where

@@ -11,7 +11,7 @@ use Rattle.clauses.specs.Formulas.{Assignment, value, negation}
 use Rattle.clauses.proofs.Literals.{value_negation}
 use Rattle.gates.specs.declared.circuit.Circuit.{Circuit}
 use Rattle.gates.specs.Words.{mix, Goes, Grows, Adds, Gives}
-use Rattle.gates.specs.Circuits.{GoesC, GivesC, Came}
+use Rattle.gates.specs.Circuits.{GoesC, GivesC, Full, Came}
 use Rattle.gates.proofs.Literals.{value_false}
 use Rattle.gates.proofs.Gates.{gives_still, grows_on}
 use Rattle.tables.specs.Tables.{shown, Filled, Shows, ShowsC, Upto}
@@ -57,6 +57,12 @@ gives_is v w e s = record { low = s.low; is = λ α o. s.is α o ∙ e α o }
 pub came_is : (d : Circuit) (o : Option ℕ) (v w : Assignment → Bool) → ((α : Assignment) → GoesC d α → v α ≡ w α) → Came d o (λ l. GivesC d l v) → Came d o (λ l. GivesC d l w)
 came_is d None v w e h = h
 came_is d (Some l) v w e h = gives_is v w e h
+
+pub came_full : {R : Type 0} (d : Circuit) (o : Option R) (v : R → Type 0) → o ≡ None → Came d o v → Full d
+came_full {R} d o v e h = subst (λ (z : Option R). Came d z v) e h
+
+pub came_some : {R : Type 0} (d : Circuit) (o : Option R) (v : R → Type 0) (l : R) → o ≡ Some l → Came d o v → v l
+came_some {R} d o v l e h = subst (λ (z : Option R). Came d z v) e h
 
 pub came_shows : (d : Circuit) (o : Option (List ℕ)) (m : ℕ) (r s : Assignment → Relation) → ((α : Assignment) (i j : ℕ) → r α i j ≡ s α i j) → Came d o (λ t. ShowsC d m t r) → Came d o (λ t. ShowsC d m t s)
 came_shows d None m r s e h = h

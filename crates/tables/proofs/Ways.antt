@@ -1,15 +1,16 @@
 -- One pair of what operators make; once or more often.
-use Rattle.std.proofs.Common.{◌≡◌, ℕ, ◌+◌, ◌*◌, ◌<◌, true, List, get_or, refl, ap, ◌∙◌, add-one}
+use Rattle.std.proofs.Common.{◌≡◌, ℕ, ◌+◌, ◌*◌, ◌/◌, ◌%◌, ◌<◌, true, ◌&&◌, ◌||◌, List, get_or, refl, ap, ◌∙◌, add-one}
+use Rattle.std.proofs.lemmas.Nat.{div-mul-add, mod-mul-add}
 use Rattle.descriptions.specs.declared.Binary.TheVariants.{Union, Intersection, Difference}
 use Rattle.descriptions.specs.Pictures.{reach}
 use Rattle.descriptions.specs.Meaning.{combine}
-use Rattle.clauses.specs.Formulas.{Assignment, negation}
+use Rattle.clauses.specs.Formulas.{Assignment, value, negation}
 use Rattle.clauses.proofs.Literals.{value_negation}
 use Rattle.gates.specs.Words.{mix, Grows}
 use Rattle.gates.proofs.Literals.{value_true, value_false}
 use Rattle.gates.proofs.Gates.{goes_fewer}
-use Rattle.tables.specs.declared.pairs.Way.TheVariants.{Through}
-use Rattle.tables.specs.Tables.{shown, Shows, made}
+use Rattle.tables.specs.Tables.{shown, Filled, Shows, Are}
+use Rattle.tables.proofs.Filling.{place_lt}
 use Rattle.tables.proofs.Warshall.{via, via_reach}
 
 -- one pair of two relations
@@ -26,9 +27,15 @@ module _ (m i j here there : ℕ) (one other : List ℕ) (is : here ≡ get_or o
   unfolding shown
   difference_is y e = rw (value_false α top, e, value_negation α there, is, is') refl
 
+-- turned round
+pub converse_shows : {b : ℕ} {g : List ℕ} {n : ℕ} (m : ℕ) (one u : List ℕ) → Filled b n m one → Are m u (λ k. get_or one (k % m * m + k / m) 0) → Shows b g n m u (λ α i j. shown α m one j i)
+unfolding shown
+converse_shows m one u f are =
+    let at : (i j : ℕ) → i < m → j < m → get_or u (i * m + j) 0 ≡ get_or one (j * m + i) 0 = λ i j hi hj. are (i * m + j) (place_lt m i j hi hj) ∙ rw (div-mul-add i m j hj, mod-mul-add i m j hj) refl in
+    record { filled = record { low = λ i j hi hj. (let e = at i j hi hj in rw e (f.low j i hj hi)) }; is = λ α o i j hi hj. ap (value α) (at i j hi hj) }
+
 -- by way of one thing more
-pub via_on : {b : ℕ} {g : List ℕ} {n : ℕ} {t : List ℕ} {c : ℕ} {b' : ℕ} {g' : List ℕ} {n' : ℕ} {t' : List ℕ} {c' : ℕ} (m k : ℕ) (one u u' : List ℕ) → Grows b g n t c b' g' n' t' c' → k < m → Shows b g n m u (λ α. via k (shown α m one)) → Shows b' g' n' m u' (λ α. made (Through k) m (shown α m u) (shown α m u)) → Shows b' g' n' m u' (λ α. via (k + 1) (shown α m one))
-unfolding made
+pub via_on : {b : ℕ} {g : List ℕ} {n : ℕ} {t : List ℕ} {c : ℕ} {b' : ℕ} {g' : List ℕ} {n' : ℕ} {t' : List ℕ} {c' : ℕ} (m k : ℕ) (one u u' : List ℕ) → Grows b g n t c b' g' n' t' c' → k < m → Shows b g n m u (λ α. via k (shown α m one)) → Shows b' g' n' m u' (λ α i j. shown α m u i j || (shown α m u i k && shown α m u k j)) → Shows b' g' n' m u' (λ α. via (k + 1) (shown α m one))
 via_on m k one u u' r h p w =
     record {
       filled = w.filled;

@@ -1,16 +1,13 @@
 -- Relations between at most eight things as tables of literals, a row after the other.
-use Rattle.std.specs.Prelude.{◌≡◌, ℕ, ◌+◌, ◌*◌, ◌<◌, Bool, ◌&&◌, ◌||◌, List, length, slice_index}
+use Rattle.std.specs.Prelude.{◌≡◌, ℕ, ◌+◌, ◌*◌, ◌<◌, Bool, List, length, slice_index}
 use Rattle.descriptions.specs.declared.Unary.{Unary}
 use Rattle.descriptions.specs.declared.Unary.TheVariants as unary
 use Rattle.descriptions.specs.declared.Binary.{Binary}
 use Rattle.descriptions.specs.declared.Binary.TheVariants as binary
 use Rattle.descriptions.specs.Pictures.{Relation}
-use Rattle.descriptions.specs.Meaning.{transform, combine}
 use Rattle.clauses.specs.Formulas.{Assignment, value}
 use Rattle.gates.specs.declared.circuit.Circuit.{Circuit}
 use Rattle.gates.specs.Words.{Goes, Gives}
-use Rattle.tables.specs.declared.pairs.Way.{Way}
-use Rattle.tables.specs.declared.pairs.Way.TheVariants as way
 
 -- the relation that an assignment makes of a table
 unfoldable pub shown : Assignment → ℕ → List ℕ → Relation
@@ -43,25 +40,12 @@ UptoC c at t f = Upto c.base c.words.now c.count at t f
 abbrev pub Are : ℕ → List ℕ → (ℕ → ℕ) → Type 0
 Are m t f = (k : ℕ) → k < m * m → slice_index t k ≡ f k
 
--- a relation made of others, pair by pair; by way of one thing is a turn of Floyd and Warshall's
-unfoldable pub made : Way → ℕ → Relation → Relation → Relation
-made (way.Of o) m r s i j = combine o m r s i j
-made way.Converse m r s i j = transform unary.Converse m r i j
-made way.Domain m r s i j = transform unary.Domain m r i j
-made (way.Through k) m r s i j = r i j || (r i k && r k j)
-
 -- how many gates a pair takes
 abbrev pub binary_cost : Binary → ℕ → ℕ
 binary_cost binary.Union m = 1
 binary_cost binary.Intersection m = 1
 binary_cost binary.Difference m = 1
 binary_cost binary.Composition m = m
-
-abbrev pub way_cost : Way → ℕ → ℕ
-way_cost (way.Of o) m = binary_cost o m
-way_cost way.Converse m = 0
-way_cost way.Domain m = m
-way_cost (way.Through k) m = 1
 
 -- and the whole of a table
 abbrev pub combine_cost : Binary → ℕ → ℕ
@@ -71,10 +55,3 @@ abbrev pub transform_cost : Unary → ℕ → ℕ
 transform_cost unary.Converse m = m * m * 0
 transform_cost unary.Closure m = m * (m * m)
 transform_cost unary.Domain m = m * m * m
-
--- a thing that there is
-abbrev pub Known : ℕ → Way → Type 0
-Known m (way.Of o) = Unit {0}
-Known m way.Converse = Unit {0}
-Known m way.Domain = Unit {0}
-Known m (way.Through k) = k < m

@@ -6,9 +6,7 @@
 mod plain;
 // Chains of gates.
 mod chains;
-// One pair of a relation that is made of others.
-mod pairs;
-// All pairs: what the operators make of tables.
+// What the operators make of tables.
 mod operators;
 
 pub use operators::{apart, combined, transformed};

@@ -1,4 +1,4 @@
-// Relations whose pairs are inputs or constants.
+// Tables whose literals are inputs or constants, or stand in another table.
 ghost use Rattle.std.specs.Prelude.{◌≡◌, ℕ, ◌+◌, ◌*◌, ◌/◌, ◌%◌, ◌<◌, ◌&&◌, ◌==◌, if◌then◌else◌, slice_index};
 ghost use Rattle.tables.specs.Tables.{Are};
 
@@ -56,4 +56,22 @@ pub fn empty(size: Size) -> [u32; 64]
     ensures { Are size.things result (λ k. 1) }
 {
     table_of(size, |_| NEVER)
+}
+
+// The literal of a pair of things.
+pub fn literal_at(table: &[u32; 64], size: Size, first: usize, second: usize) -> u32
+    requires { (first < size.things) × (second < size.things) }
+    ensures { result ≡ slice_index table.now (first * size.things + second) }
+{
+    table[first * size.things + second]
+}
+
+// A relation turned round: the literals change places.
+pub fn converse(one: &[u32; 64], size: Size) -> [u32; 64]
+    ensures { Are size.things result (λ k. slice_index one.now (k % size.things * size.things + k / size.things)) }
+{
+    table_of(size, |place| {
+        let pair = size.pair_at(place);
+        literal_at(one, size, pair.second, pair.first)
+    })
 }

@@ -5,8 +5,8 @@ use Rattle.tables.proofs.operators.closure.Goals as goal
 
 pub loop-thing-preserved : goal.loop-thing-preserved
 loop-thing-preserved c = (
-  adds_on (c.loop-thing.thing * (c.args.size.things * c.args.size.things)) (c.args.size.things * c.args.size.things * 1) _ c.loop-thing.invariant.0 c.all_pairs.ensures.adds (omega (arith, cost_step c.loop-thing.thing (c.args.size.things * c.args.size.things), mul-one (c.args.size.things * c.args.size.things))),
-  via_on c.args.size.things c.loop-thing.thing c.args.one.now c.loop-thing.table c.in_ok-table.table c.all_pairs.ensures.adds.grew c.loop-thing-test.true c.loop-thing.invariant.1 c.in_ok-table.ensures.came,
+  adds_on (c.loop-thing.thing * (c.args.size.things * c.args.size.things)) (c.args.size.things * c.args.size.things * 1) _ c.loop-thing.invariant.0 c.through.ensures.adds (omega (arith, cost_step c.loop-thing.thing (c.args.size.things * c.args.size.things), mul-one (c.args.size.things * c.args.size.things))),
+  via_on c.args.size.things c.loop-thing.thing c.args.one.now c.loop-thing.table c.in_ok-table.table c.through.ensures.adds.grew c.loop-thing-test.true c.loop-thing.invariant.1 c.in_ok-table.ensures.came,
 )
 
 pub returns-clause-came : goal.returns-clause-came

@@ -1,7 +1,7 @@
 use Rattle.gates.proofs.Literals.{negated_low}
 use Rattle.tables.proofs.Filling.{came_is}
 use Rattle.tables.proofs.Ways.{union_is, intersection_is, difference_is}
-use Rattle.tables.proofs.pairs.operator_pair.Goals as goal
+use Rattle.tables.proofs.operators.operator_pair.Goals as goal
 
 pub gate-requires-in-Difference-clause-iny : goal.gate-requires-in-Difference-clause-iny
 gate-requires-in-Difference-clause-iny c = negated_low _ _ _ c.negated.ensures (rw c.literal_at-there.ensures (c.requires.other.low _ _ c.requires.inside.0 c.requires.inside.1))

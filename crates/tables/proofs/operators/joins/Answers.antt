@@ -1,6 +1,6 @@
 use Rattle.std.proofs.Common.{◌+◌, ◌*◌, get_or, rules}
 use Rattle.tables.specs.Tables.{shown}
-use Rattle.tables.proofs.pairs.joins.Goals as goal
+use Rattle.tables.proofs.operators.joins.Goals as goal
 
 pub returns-clause-came : goal.returns-clause-came
 unfolding shown

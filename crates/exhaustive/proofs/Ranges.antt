@@ -7,10 +7,8 @@ use Rattle.std.specs.Fn.{Called}
 use Rattle.std.specs.Iterator.Runs.{Run, SomeRun, ItemsCountUp, CallKeepsClosure, AllItemsGive, IsFirstToGive}
 use Rattle.std.specs.Option.{MatchOption, IfSome, IsSomeAnd}
 use Rattle.std.specs.declared.ops.Range.{Range}
+use Rattle.descriptions.proofs.Inversion.{some_same}
 use denote.Param.Members.{Mut}
-
-some_same : {A : Type 0} (x y : A) → Some x ≡ Some y → x ≡ y
-some_same x y e = cc
 
 -- an item that is there
 at_item : (o : Option ℕ) (P : ℕ → Type 0) (k : ℕ) → option_map (λ y. y) o ≡ Some k → IsSomeAnd o P → P k

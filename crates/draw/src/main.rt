@@ -71,21 +71,22 @@ fn hint(refusal: Refusal) -> &'static str {
 // Finds and draws, relation by relation.
 fn answer(rt: &HostRuntime, description: &[u8], work: &mut [u32]) -> io::Result<()> {
     let mut out = [0; 72];
-    match find(description, MOST, &mut out, work) {
-        Ok(Some(things)) => {
-            println!(rt; "first picture: {things} things")?;
-            let relations = outline_of(description).map_or(0, |outline| outline.relations);
-            for relation in 0..relations as usize {
-                draw_table(rt, &out, things, relation)?;
-            }
-            Ok(())
-        }
-        Ok(None) => println!(rt; "none of up to three things"),
+    let found = match find(description, MOST, &mut out, work) {
+        Ok(found) => found,
         Err(refusal) => {
             let hint = hint(refusal);
-            println!(rt; "{refusal}{hint}")
+            return println!(rt; "{refusal}{hint}");
         }
+    };
+    let Some(things) = found else {
+        return println!(rt; "none of up to three things");
+    };
+    println!(rt; "first picture: {things} things")?;
+    let relations = outline_of(description).map_or(0, |outline| outline.relations);
+    for relation in 0..relations as usize {
+        draw_table(rt, &out, things, relation)?;
     }
+    Ok(())
 }
 
 fn main(rt: HostRuntime) -> io::Result<()> {

@@ -50,10 +50,12 @@ pub fn first_of_size(description: &[u8], shape: Shape) -> Option<Packed>
     ensures { FirstOf description.now shape.relations shape.size.things result }
 {
     let mut candidate = blank(shape);
-    while !tells(description, &candidate) {
+    loop {
+        if tells(description, &candidate) {
+            break Some(candidate);
+        }
         candidate = next_after(&candidate)?;
     }
-    Some(candidate)
 }
 
 // The first picture of at most as many things as the shape has, from none on, if there is one.

@@ -8,10 +8,10 @@ pub loop-candidate-smaller : goal.loop-candidate-smaller
 loop-candidate-smaller c = fewer_left _ _ c.in_ok-candidate.ensures
 
 pub loop-candidate-preserved : goal.loop-candidate-preserved
-loop-candidate-preserved c = passed_more _ _ _ c.loop-candidate.candidate c.in_ok-candidate.candidate c.loop-candidate.invariant c.loop-candidate-test.ensures c.in_ok-candidate.ensures
+loop-candidate-preserved c = passed_more _ _ _ c.loop-candidate.candidate c.in_ok-candidate.candidate c.loop-candidate.invariant c.if-tells.ensures c.in_ok-candidate.ensures
 
 pub returns-in_err-candidate : goal.returns-in_err-candidate
-returns-in_err-candidate c = rw c.from_residual.ensures (passed_all _ _ _ c.loop-candidate.candidate c.loop-candidate.invariant c.loop-candidate-test.ensures c.in_err-candidate.ensures)
+returns-in_err-candidate c = rw c.from_residual.ensures (passed_all _ _ _ c.loop-candidate.candidate c.loop-candidate.invariant c.if-tells.ensures c.in_err-candidate.ensures)
 
 pub returns : goal.returns
-returns c = reached _ _ _ c.loop-candidate.candidate c.loop-candidate.invariant c.loop-candidate-test.ensures
+returns c = reached _ _ _ c.loop-candidate.candidate c.loop-candidate.invariant c.if-tells.ensures

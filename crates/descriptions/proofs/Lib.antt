@@ -10,5 +10,3 @@ pub mod Operators
 pub mod Depths
 pub mod Operands
 pub mod Sentences
--- examples
-pub mod Worked

@@ -2,7 +2,7 @@
 use Rattle.std.specs.Prelude.{◌≡◌, ℕ, ◌<◌, ◌≤◌, Bool, true, ◌&&◌, List, ◌++◌, length, drop, Some, None, Option}
 use Rattle.descriptions.specs.declared.extents.Scope.{Scope}
 use Rattle.descriptions.specs.declared.extents.Written.{Written}
-use Rattle.descriptions.specs.declared.whole.Outline.{Outline}
+use Rattle.descriptions.specs.declared.shapes.Outline.{Outline}
 use Rattle.descriptions.specs.Meaning.{Description}
 use Rattle.descriptions.specs.Bytes.{write_e, write_s, fine_e, fine_s, depth, Reads}
 

@@ -15,8 +15,8 @@ mod whole;
 
 pub use extents::{DEEPEST, Scope, Written, expression_extent, sentence_extent};
 pub use heads::{ExpressionHead, SentenceHead, byte, expression_head, sentence_head};
-pub use shapes::{Pair, Shape, Size, Spot};
-pub use whole::{Outline, outline_of};
+pub use shapes::{Outline, Pair, Shape, Size, Spot};
+pub use whole::outline_of;
 
 // Operators that make a relation of one: turned round; once or more often; what stands first in a pair.
 #[derive(Clone, Copy)]

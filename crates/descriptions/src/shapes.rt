@@ -17,6 +17,16 @@ pub struct Shape {
     pub ghost few: { relations ≤ 8 },
 }
 
+// What has to be known of a description before pictures are looked for: how many relations it is
+// about, and how deep 'for every' stands in it.
+#[derive(Clone, Copy)]
+pub struct Outline {
+    pub relations: u8,
+    pub depth: u8,
+    pub ghost few: { relations ≤ 8 },
+    pub ghost shallow: { depth ≤ 4 },
+}
+
 // A first and a second thing.
 #[derive(Clone, Copy)]
 pub struct Pair {

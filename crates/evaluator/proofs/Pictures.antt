@@ -1,6 +1,7 @@
 -- Pictures packed into words.
 use Rattle.std.proofs.Common.{◌≡◌, ℕ, zero, suc, ◌+◌, ◌*◌, ◌/◌, ◌%◌, ◌<◌, ◌≤◌, Bool, true, false, cond, ◌&&◌, ◌||◌, eqb, ltb, ◌⊎◌, List, [], ◌∷◌, ◌++◌, length, get_or, take, drop, set, sym, refl, ap, ◌∙◌, inl, inr, add_assoc, mul-le-mul_right, mul_assoc, suc-mul, add-mul, arith, below_more}
 use Rattle.std.proofs.lemmas.Nat.{div-mul-add, mod-mul-add, div-add-mod'}
+use Rattle.std.proofs.Math.Bool.{or-false}
 use Rattle.std.proofs.Math.Seq.{take-append_seam, drop-append_seam}
 use Rattle.std.proofs.lemmas.List.FromFn.{get_or-map-range_with_len, length-map-range_with_len}
 use Rattle.std.proofs.lemmas.List.{ext_get_or, length-set, get_or-set_same, get_or-set_other}
@@ -127,10 +128,6 @@ bit_at_zeros m k = ap (λ (x : ℕ). bit x (k % (m * m))) (zeros (k / (m * m))) 
 pub reading_none : (n m : ℕ) (s : List ℕ) → Reading n m s no_words 0
 reading_none n m s = record { long = refl; neat = λ k h. absurd (omega arith); done = λ k h. absurd (omega arith); blank = λ k h. bit_at_zeros m k }
 
-or_false : (b : Bool) → ((true && b) || false) ≡ b
-or_false true = refl
-or_false false = refl
-
 pub reading_more : (n m : ℕ) (s ws : List ℕ) (at w : ℕ) (spot : Spot) → n ≤ 8 → SpotAt n at m spot → get_or s at 0 ≤ 1 → ((j : ℕ) → bit w j ≡ ((eqb j spot.place && eqb (get_or s at 0) 1) || bit (get_or ws spot.relation 0) j)) → Reading n m s ws at → Reading n m s (set ws spot.relation w) (at + 1)
 reading_more n m s ws at w spot few here small f r =
     let b : Bool = eqb (get_or s at 0) 1 in
@@ -140,7 +137,7 @@ reading_more n m s ws at w spot few here small f r =
     record {
       long = length-set ws spot.relation w ∙ r.long;
       neat = below_more _ _ r.neat small;
-      done = below_more _ _ (λ k h. each k ∙ ap (λ (x : Bool). (x && b) || bit_at ws m k) (ne_eqb k at (omega arith)) ∙ r.done k h) (each at ∙ ap (λ (x : Bool). (x && b) || bit_at ws m at) (eq-eqb at at refl) ∙ ap (λ (x : Bool). (true && b) || x) (r.blank at (omega arith)) ∙ or_false b);
+      done = below_more _ _ (λ k h. each k ∙ ap (λ (x : Bool). (x && b) || bit_at ws m k) (ne_eqb k at (omega arith)) ∙ r.done k h) (each at ∙ ap (λ (x : Bool). (x && b) || bit_at ws m at) (eq-eqb at at refl) ∙ ap (λ (x : Bool). (true && b) || x) (r.blank at (omega arith)) ∙ or-false b);
       blank = λ k h. each k ∙ ap (λ (x : Bool). (x && b) || bit_at ws m k) (ne_eqb k at (omega arith)) ∙ r.blank k (omega arith);
     }
 

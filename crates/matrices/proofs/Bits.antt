@@ -64,9 +64,6 @@ bit_put_true w p k b h e =
     ap (λ (x : ℕ). bit (bit_or w x) k) (one_shl p 64 h) ∙ bit_of_or w (2 ^ p) k ∙ ap (λ (x : Bool). bit w k || x) (bit_pow p k) ∙ or_comm (bit w k) (eqb k p)
     ∙ ap (λ (x : Bool). x || bit w k) (sym (ap (λ (x : Bool). eqb k p && x) e ∙ and-true (eqb k p)))
 
-pub bit_put_false : (w p k : ℕ) (b : Bool) → b ≡ false → bit w k ≡ ((eqb k p && b) || bit w k)
-bit_put_false w p k b e = ap (λ (x : Bool). x || bit w k) (sym (ap (λ (x : Bool). eqb k p && x) e ∙ and-false (eqb k p)))
-
 differ_cond : (a b : Bool) → differ a b ≡ cond b (not a) a
 differ_cond true true = refl
 differ_cond true false = refl

@@ -115,12 +115,12 @@ fn closure(one: u64, size: Size) -> u64
     ensures { Shows size.things result (transform Unary.Closure size.things (matrix size.things one)) }
 {
     let mut word = one;
-    for step in 0..size.things {
+    'steps: for step in 0..size.things {
         let next = word_of(size, |first, second| {
             has(one, size, first, second) || joins(one, word, size, first, second)
         });
         if next == word {
-            break;
+            break 'steps;
         }
         word = next;
     }

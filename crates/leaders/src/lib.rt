@@ -46,7 +46,7 @@ pub fn chain(circuit: &mut Circuit, shape: Shape, swap: Transposition) -> Option
 {
     let mut smaller: u32 = NEVER;
     for place in 0..shape.bits() {
-        let there = swap.source_of(place, shape.size);
+        let there = swap.source_of(place, shape);
         if place < there {
             smaller = link(circuit, smaller, bit_at(place), bit_at(there))?;
         }

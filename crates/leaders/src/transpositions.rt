@@ -1,7 +1,7 @@
 // Two things that change places, and which bit of a picture comes where.
 ghost use Rattle.std.specs.Prelude.{◌<◌};
 
-use descriptions::Size;
+use descriptions::Shape;
 
 #[derive(Clone, Copy)]
 pub struct Transposition {
@@ -11,13 +11,14 @@ pub struct Transposition {
 }
 
 impl Transposition {
-    ghost use Rattle.std.specs.Prelude.{◌≡◌, ◌<◌};
+    ghost use Rattle.std.specs.Prelude.{◌≡◌, ℕ, ◌*◌, ◌<◌};
     ghost use Rattle.firsts.specs.Leaders.{source, swap};
 
     // What a thing changes places with.
     #[tactic(auto, unfolding(firsts::specs::Leaders::swap))]
     fn of(self, thing: usize) -> usize
-        ensures { result ≡ swap self.one self.other thing }
+        ensures is { result ≡ swap self.one self.other thing }
+        ensures below { (m : ℕ) → self.other < m → thing < m → result < m }
     {
         if thing == self.one {
             self.other
@@ -29,15 +30,16 @@ impl Transposition {
     }
 
     // The place whose bit comes to a place.
-    pub fn source_of(self, place: usize, size: Size) -> usize
-        requires low { place < 512 }
-        requires inside { self.other < size.things }
-        ensures { result ≡ source size.things (swap self.one self.other) place }
+    pub fn source_of(self, place: usize, shape: Shape) -> usize
+        requires low { place < shape.relations * (shape.size.things * shape.size.things) }
+        requires inside { self.other < shape.size.things }
+        ensures { result ≡ source shape.size.things (swap self.one self.other) place }
     {
-        let things = size.things;
-        let relation = place / things / things;
-        let first = self.of(place / things % things);
-        let second = self.of(place % things);
-        (relation * things + first) * things + second
+        let things = shape.size.things;
+        let spot = shape.spot_at(place);
+        let pair = shape.size.pair_at(spot.place);
+        let first = self.of(pair.first);
+        let second = self.of(pair.second);
+        (spot.relation * things + first) * things + second
     }
 }

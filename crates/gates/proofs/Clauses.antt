@@ -227,11 +227,13 @@ circuit_written c s t u w none unused a b r d =
   where
     all : (r : Result (Unit {0}) Unfit) → WritesIf u c.claimed (3 * c.claimed) (Meets c.claims.now c.claimed) w r → Writes s (1 + 4 * c.count) (1 + 11 * c.count) (GoesC c) u → WrittenIf c s w r
     all (Err e) d ab = refused_then s u _ _ _ ab c.claimed (3 * c.claimed) (clauses_of c) (literals_of c) (omega arith) (omega arith) e d
-    all (Ok _) d ab =
-        record {
-          count = let l = ap length none in omega (arith, d.count, ab.count);
-          used = omega (arith, d.used, ab.used);
-          goes = λ α m. (ab.says α (d.says α m).0).1;
-          meets = λ α m. (d.says α m).1;
-          models = λ α o m. d.means α (ab.means α (no_clauses s.formula none α) o) m;
-        }
+    all (Ok _) d ab = (
+      record { variables = d.memory.variables ∙ ab.memory.variables; spans_size = d.memory.spans_size ∙ ab.memory.spans_size; words_size = d.memory.words_size ∙ ab.memory.words_size },
+      record {
+        count = let l = ap length none in omega (arith, d.count, ab.count);
+        used = omega (arith, d.used, ab.used);
+        goes = λ α m. (ab.says α (d.says α m).0).1;
+        meets = λ α m. (d.says α m).1;
+        models = λ α o m. d.means α (ab.means α (no_clauses s.formula none α) o) m;
+      },
+    )

@@ -7,7 +7,7 @@ use Rattle.gates.specs.declared.sharing.Place.TheVariants.{Gate, Entry, Nowhere}
 use Rattle.gates.specs.declared.circuit.Circuit.{Circuit}
 use Rattle.gates.specs.Words.{mix, either, Goes, Meets, Grows, Adds, Gives}
 
--- the same of a circuit
+-- what is said of words, of a circuit's
 abbrev pub GoesC : Circuit → Assignment → Type 0
 GoesC c α = Goes c.base c.words.now c.count α
 
@@ -46,6 +46,7 @@ pub record Claims (s : Circuit) (a b c : ℕ) (t : Circuit) : Type 0 where
   pub meets : (α : Assignment) → MeetsC s α → either α a b c ≡ true → MeetsC t α
   pub met : (α : Assignment) → MeetsC t α → MeetsC s α × (either α a b c ≡ true)
 
+-- nothing is changed
 pub record Unchanged (s t : Circuit) : Type 0 where
   pub base : t.base ≡ s.base
   pub words : t.words.now ≡ s.words.now

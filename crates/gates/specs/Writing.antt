@@ -57,5 +57,5 @@ pub record Written (c : Circuit) (t : StoreView) : Type 0 where
   pub models : (α : Assignment) → GoesC c α → MeetsC c α → Models t.formula α
 
 abbrev pub WrittenIf : Circuit → StoreView → StoreView → Result (Unit {0}) Unfit → Type 0
-WrittenIf c s t (Ok _) = Written c t
+WrittenIf c s t (Ok _) = SameMemory s t × Written c t
 WrittenIf c s t (Err e) = Refused s (clauses_of c) (literals_of c) e

@@ -37,7 +37,7 @@ impl<'a> Circuit<'a> {
         requires small { 2 * (base + length words.old / 3 + 1) < 2 ^ 32 }
         ensures base { result.base ≡ base }
         ensures none { (result.count ≡ 0) × (result.claimed ≡ 0) }
-        ensures rooms { (length result.words.now ≡ length words.old) × (length result.claims.now ≡ length claims.old) }
+        ensures memory { (result.words.now ≡ words.old) × (result.claims.now ≡ claims.old) × (result.table.now ≡ table.old) }
     {
         Circuit {
             words,

@@ -29,7 +29,7 @@ fn hash(inputs: Inputs) -> usize
 }
 
 impl Circuit<'_> {
-    pub fn find(&self, inputs: Inputs) -> Place
+    pub(crate) fn find(&self, inputs: Inputs) -> Place
         ensures { Found self.now.words.now self.now.count (length self.now.table.now) inputs result }
     {
         let entries = self.table.len();

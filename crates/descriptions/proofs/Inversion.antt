@@ -85,7 +85,7 @@ made_s (negation c) = (c, refl)
 made_s (both c d) = ((c, d), refl)
 made_s (for_every c) = (c, refl)
 
-some_same : {T : Type 0} (x y : T) → Some x ≡ Some y → x ≡ y
+pub some_same : {T : Type 0} (x y : T) → Some x ≡ Some y → x ≡ y
 some_same x y e = cc
 
 pub made_by_e : (h : ExpressionHead) (e : Expression) (s u : List ℕ) → u ≡ write_e e ++ s → head_of_e u ≡ Some h → MadeE h e

@@ -1,6 +1,5 @@
 -- generic lemmas
 pub mod Quantifiers
-pub mod Places
 pub mod Order
 -- bytes are the writing of one description at most
 pub mod Inversion
@@ -11,5 +10,3 @@ pub mod Operators
 pub mod Depths
 pub mod Operands
 pub mod Sentences
--- examples
-pub mod Worked

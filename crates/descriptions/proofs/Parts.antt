@@ -2,7 +2,7 @@
 use Rattle.std.proofs.Common.{◌≡◌, ℕ, ◌+◌, Bool, true, List, ◌∷◌, ◌++◌, drop, Some, None, Option, sym, ap, ◌∙◌, subst, append_assoc, arith}
 use Rattle.std.proofs.lemmas.Bool.{and_parts, and_from}
 use Rattle.descriptions.specs.Reading.{Stands, Absent, Read, write_pair, fine_pair}
-use Rattle.descriptions.proofs.Unique.{Unique, tails}
+use Rattle.descriptions.proofs.Unique.{Unique, tail_same}
 
 -- an operator: its byte, what it makes of its operands, and that what begins with the byte is made by it
 pub record Operator {X A : Type 0} (writeX : X → List ℕ) (fineX : X → Bool) (write_a : A → List ℕ) (fineA : A → Bool) (code : ℕ) : Type 0 where
@@ -20,7 +20,7 @@ module _ {X A : Type 0} (writeX : X → List ℕ) (fineX : X → Bool) (write_a 
   under : (e : X) (t : List ℕ) → fineX e ≡ true → drop at s ≡ writeX e ++ t → (a : A) × (e ≡ o.make a) × (fineA a ≡ true) × (drop (at + 1) s ≡ write_a a ++ t)
   under e t ok p =
       let m = o.made e (drop (at + 1) s) t (sym begins ∙ p) in
-      (m.0, m.1, sym (o.fines m.0) ∙ ap fineX (sym m.1) ∙ ok, tails code _ _ (sym begins ∙ p ∙ ap (λ (z : X). writeX z ++ t) m.1 ∙ ap (λ (z : List ℕ). z ++ t) (o.writes m.0)))
+      (m.0, m.1, sym (o.fines m.0) ∙ ap fineX (sym m.1) ∙ ok, tail_same code code _ _ (sym begins ∙ p ∙ ap (λ (z : X). writeX z ++ t) m.1 ∙ ap (λ (z : List ℕ). z ++ t) (o.writes m.0)))
 
   -- its operands do not stand there
   pub operator_absent : (N : A → Type 0) (M : X → Type 0) → ((a : A) → N a → M (o.make a)) → Absent write_a fineA s (at + 1) N → Absent writeX fineX s at M

@@ -1,6 +1,8 @@
 -- Some thing below m, and every one.
 use Rattle.std.proofs.Common.{◌≡◌, ℕ, zero, suc, ◌+◌, ◌<◌, Bool, true, false, not, ◌&&◌, ◌||◌, ◌⊎◌, sym, refl, ap, ◌∙◌, inl, inr, add-one, arith}
 use Rattle.std.proofs.lemmas.Bool.{cases_order, both_ways, and_left, and_right, or_left, or_right}
+use Rattle.std.proofs.Math.Bool.{or_assoc, or_comm}
+use Rattle.std.specs.List.{list_any, range_with_len}
 use Rattle.descriptions.specs.Pictures.{Relation, any, every, compose, reach}
 
 pub same_truth : (a b : Bool) → (a ≡ true → b ≡ true) → (b ≡ true → a ≡ true) → a ≡ b
@@ -33,6 +35,22 @@ any_some (suc m) f e = go (f m) refl (any_some m f)
 pub any_cong : (m : ℕ) (f g : ℕ → Bool) → ((k : ℕ) → k < m → f k ≡ g k) → any m f ≡ any m g
 any_cong zero f g h = refl
 any_cong (suc m) f g h = let e = h m (omega arith) in let ih = any_cong m f g (λ k l. h k (omega arith)) in rw (e, ih) refl
+
+any_first : (m : ℕ) (f : ℕ → Bool) → any (suc m) f ≡ (f 0 || any m (λ k. f (k + 1)))
+any_first zero f = refl
+any_first (suc m) f = ap (λ (b : Bool). f (suc m) || b) (any_first m f) ∙ sym (or_assoc (f (suc m)) (f 0) _) ∙ ap (λ (b : Bool). b || any m (λ k. f (k + 1))) (or_comm (f (suc m)) (f 0)) ∙ or_assoc (f 0) (f (suc m)) _ ∙ ap (λ (x : ℕ). f 0 || (f x || any m (λ k. f (k + 1)))) (sym (add-one m))
+
+-- some number of a list of them in a row
+any_listed_from : (a m : ℕ) (f : ℕ → Bool) → list_any f (range_with_len a m) ≡ any m (λ k. f (a + k))
+any_listed_from a zero f = refl
+any_listed_from a (suc m) f =
+    let e : f a ≡ f (a + 0) = ap f (omega arith) in
+    ap (λ (b : Bool). b || list_any f (range_with_len (a + 1) m)) e
+    ∙ ap (λ (b : Bool). f (a + 0) || b) (any_listed_from (a + 1) m f ∙ any_cong m _ _ (λ k l. ap f (omega arith)))
+    ∙ sym (any_first m (λ k. f (a + k)))
+
+pub any_listed : (m : ℕ) (f : ℕ → Bool) → list_any f (range_with_len 0 m) ≡ any m f
+any_listed m f = any_listed_from 0 m f ∙ any_cong m _ _ (λ k l. ap f (omega arith))
 
 pub every_more : (m : ℕ) (f : ℕ → Bool) → every m f ≡ true → f m ≡ true → every (m + 1) f ≡ true
 every_more m f p q = rw (add-one, q) p

@@ -4,13 +4,7 @@ use Rattle.std.proofs.lemmas.List.{append-nil, length-drop, drop_all}
 use Rattle.descriptions.specs.Meaning.{Sentence, Description}
 use Rattle.descriptions.specs.Bytes.{write_s, fine_s, Reads}
 use Rattle.descriptions.specs.Reading.{Stands, Absent}
-use Rattle.descriptions.proofs.Unique.{unique_s}
-
-head_same : (g h : ℕ) (s t : List ℕ) → g ∷ s ≡ h ∷ t → g ≡ h
-head_same g h s t e = cc
-
-tail_same : (g h : ℕ) (s t : List ℕ) → g ∷ s ≡ h ∷ t → s ≡ t
-tail_same g h s t e = cc
+use Rattle.descriptions.proofs.Unique.{unique_s, head_same, tail_same}
 
 -- the bytes after the first are the sentence's
 pub sentence_bytes : (s : List ℕ) (n : ℕ) (d : Description) → s ≡ n ∷ drop 1 s → Reads s d → (d.relations ≡ n) × (drop 1 s ≡ write_s d.sentence ++ []) × (fine_s n 0 d.sentence ≡ true)

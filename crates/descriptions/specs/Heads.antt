@@ -1,9 +1,10 @@
 -- Heads: what the writing of an expression or a sentence begins with.
-use Rattle.std.specs.Prelude.{◌≡◌, ℕ, ◌+◌, ◌<◌, ◌≤◌, cond, List, [], ◌∷◌, ◌++◌, length, drop, Some, None, Option, ◌==◌}
+use Rattle.std.specs.Prelude.{◌≡◌, ℕ, ◌+◌, ◌<◌, ◌≤◌, cond, List, [], ◌∷◌, ◌++◌, length, drop, Some, None, Option, Result, MatchResult, ◌==◌, ◌≢◌}
 use Rattle.descriptions.specs.declared.Unary.TheVariants.{Converse, Closure, Domain}
 use Rattle.descriptions.specs.declared.Binary.TheVariants.{Union, Intersection, Difference, Composition}
 use Rattle.descriptions.specs.declared.heads.ExpressionHead.{ExpressionHead}
 use Rattle.descriptions.specs.declared.heads.ExpressionHead.TheVariants as head
+use Rattle.descriptions.specs.declared.heads.NoSentence.{NoSentence}
 use Rattle.descriptions.specs.declared.heads.SentenceHead.{SentenceHead}
 use Rattle.descriptions.specs.declared.heads.SentenceHead.TheVariants.{Within, Nonempty, Not, Both, ForEvery}
 use Rattle.descriptions.specs.Bytes.{unary_byte, binary_byte}
@@ -28,6 +29,10 @@ head_s Nonempty = 21
 head_s Not = 22
 head_s Both = 23
 head_s ForEvery = 24
+
+-- a byte as a sentence's head
+abbrev pub SentenceCode : ℕ → Result SentenceHead NoSentence → Type 0
+SentenceCode b r = MatchResult r (λ h. b ≡ head_s h) (λ e. (h : SentenceHead) → b ≢ head_s h)
 
 -- the head that bytes begin with
 abbrev pub numbered : (ℕ → ExpressionHead) → List ℕ → Option ExpressionHead

@@ -6,4 +6,5 @@ pub mod Theorems
 pub mod First
 pub mod Reading
 pub mod Heads
+pub mod Shapes
 pub mod Examples

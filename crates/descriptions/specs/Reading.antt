@@ -1,10 +1,8 @@
 -- What it says that a part of a description is read at a place: one contract for every recursion over bytes.
-use Rattle.std.specs.Prelude.{◌≡◌, ℕ, ◌<◌, ◌≤◌, max, Bool, true, ◌&&◌, List, ◌++◌, length, drop, Some, None, Option}
+use Rattle.std.specs.Prelude.{◌≡◌, ℕ, ◌<◌, ◌≤◌, Bool, true, ◌&&◌, List, ◌++◌, length, drop, Some, None, Option}
 use Rattle.descriptions.specs.declared.extents.Scope.{Scope}
-use Rattle.descriptions.specs.declared.extents.Extent.{Extent}
-use Rattle.descriptions.specs.declared.extents.Kind.{Kind}
-use Rattle.descriptions.specs.declared.extents.Kind.TheVariants.{OfExpression, OfSentence}
-use Rattle.descriptions.specs.declared.whole.Outline.{Outline}
+use Rattle.descriptions.specs.declared.extents.Written.{Written}
+use Rattle.descriptions.specs.declared.shapes.Outline.{Outline}
 use Rattle.descriptions.specs.Meaning.{Description}
 use Rattle.descriptions.specs.Bytes.{write_e, write_s, fine_e, fine_s, depth, Reads}
 
@@ -34,19 +32,14 @@ abbrev pub fine_pair : {X : Type 0} → (X → Bool) → X × X → Bool
 fine_pair fine x = fine x.0 && fine x.1
 
 -- where expressions and sentences end, and how deep 'for every' stands in them
-abbrev pub ExtentE : Scope → List ℕ → ℕ → Option Extent → Type 0
-ExtentE c s at r = Read write_e (fine_e c.relations c.spoken) s at (λ x. x.end) (λ e x. x.depth ≡ 0) (λ e. ⊥) r
+abbrev pub ExtentE : Scope → List ℕ → ℕ → Option (Written ℕ) → Type 0
+ExtentE c s at r = Read write_e (fine_e c.relations c.spoken) s at (λ x. x.end) (λ e x. x.value ≡ 0) (λ e. ⊥) r
 
-abbrev pub ExtentS : Scope → List ℕ → ℕ → Option Extent → Type 0
-ExtentS c s at r = Read write_s (fine_s c.relations c.spoken) s at (λ x. x.end) (λ e x. x.depth ≡ depth e) (λ e. ⊥) r
+abbrev pub ExtentsE : Scope → List ℕ → ℕ → Option (Written ℕ) → Type 0
+ExtentsE c s at r = Read (write_pair write_e) (fine_pair (fine_e c.relations c.spoken)) s at (λ x. x.end) (λ e x. x.value ≡ 0) (λ e. ⊥) r
 
-abbrev pub OperandExtent : Kind → Scope → List ℕ → ℕ → Option Extent → Type 0
-OperandExtent OfExpression c s at r = ExtentE c s at r
-OperandExtent OfSentence c s at r = ExtentS c s at r
-
-abbrev pub PairExtent : Kind → Scope → List ℕ → ℕ → Option Extent → Type 0
-PairExtent OfExpression c s at r = Read (write_pair write_e) (fine_pair (fine_e c.relations c.spoken)) s at (λ x. x.end) (λ e x. x.depth ≡ 0) (λ e. ⊥) r
-PairExtent OfSentence c s at r = Read (write_pair write_s) (fine_pair (fine_s c.relations c.spoken)) s at (λ x. x.end) (λ e x. x.depth ≡ max (depth e.0) (depth e.1)) (λ e. ⊥) r
+abbrev pub ExtentS : Scope → List ℕ → ℕ → Option (Written ℕ) → Type 0
+ExtentS c s at r = Read write_s (fine_s c.relations c.spoken) s at (λ x. x.end) (λ e x. x.value ≡ depth e) (λ e. ⊥) r
 
 -- bytes as a description: which one, with how many relations and how deep; or none
 pub record Outlines (s : List ℕ) (o : Outline) : Type 0 where

@@ -1,6 +1,6 @@
 // Where an expression or a sentence ends, if a well-formed one is written at a place. Nothing is
 // built: the functions call one another over positions in the bytes, and what is left to read falls.
-ghost use Rattle.descriptions.specs.Reading.{ExtentE, ExtentS, OperandExtent, PairExtent};
+ghost use Rattle.descriptions.specs.Reading.{ExtentE, ExtentsE, ExtentS};
 
 use crate::heads::{ExpressionHead, SentenceHead, expression_head, sentence_head};
 
@@ -14,106 +14,78 @@ pub struct Scope {
     pub spoken: u8,
 }
 
-// Where a part ends, and how deep 'for every' stands in it.
+// What is written at a place: what it stands for, and where its writing ends.
 #[derive(Clone, Copy)]
-pub struct Extent {
+pub struct Written<T> {
+    pub value: T,
     pub end: usize,
-    pub depth: u8,
 }
 
-// What an operand is.
-#[derive(Clone, Copy)]
-pub enum Kind {
-    OfExpression,
-    OfSentence,
-}
-
-#[cycle(extent)]
-pub fn expression_extent(bytes: &[u8], at: usize, scope: Scope) -> Option<Extent>
+// How deep 'for every' stands in an expression: there is none.
+#[cycle(expressions)]
+pub fn expression_extent(bytes: &[u8], at: usize, scope: Scope) -> Option<Written<u8>>
     ensures { ExtentE scope bytes.now at result }
 {
-    let head = expression_head(bytes, at)?;
-    match head {
+    match expression_head(bytes, at)? {
         ExpressionHead::Named(relation) => {
-            if relation < scope.relations {
-                Some(Extent {
-                    end: at + 2,
-                    depth: 0,
-                })
-            } else {
-                None
-            }
+            (relation < scope.relations).then_some(Written {
+                value: 0,
+                end: at + 2,
+            })
         }
         ExpressionHead::Thing(thing) => {
-            if thing < scope.spoken {
-                Some(Extent {
-                    end: at + 2,
-                    depth: 0,
-                })
-            } else {
-                None
-            }
+            (thing < scope.spoken).then_some(Written {
+                value: 0,
+                end: at + 2,
+            })
         }
-        ExpressionHead::Identity => Some(Extent {
+        ExpressionHead::Identity | ExpressionHead::Empty => Some(Written {
+            value: 0,
             end: at + 1,
-            depth: 0,
         }),
-        ExpressionHead::Empty => Some(Extent {
-            end: at + 1,
-            depth: 0,
-        }),
-        ExpressionHead::Unary(_) => operand_extent(bytes, at + 1, scope, Kind::OfExpression),
-        ExpressionHead::Binary(_) => pair_extent(bytes, at + 1, scope, Kind::OfExpression),
+        ExpressionHead::Unary(_) => expression_extent(bytes, at + 1, scope),
+        ExpressionHead::Binary(_) => expressions_extent(bytes, at + 1, scope),
     }
 }
 
-#[cycle(extent)]
-pub fn sentence_extent(bytes: &[u8], at: usize, scope: Scope) -> Option<Extent>
+// Two expressions, one after the other.
+#[cycle(expressions)]
+fn expressions_extent(bytes: &[u8], at: usize, scope: Scope) -> Option<Written<u8>>
+    ensures { ExtentsE scope bytes.now at result }
+{
+    let one = expression_extent(bytes, at, scope)?;
+    expression_extent(bytes, one.end, scope)
+}
+
+// How deep 'for every' stands in a sentence.
+pub fn sentence_extent(bytes: &[u8], at: usize, scope: Scope) -> Option<Written<u8>>
     ensures { ExtentS scope bytes.now at result }
 {
-    let head = sentence_head(bytes, at)?;
-    match head {
-        SentenceHead::Within => pair_extent(bytes, at + 1, scope, Kind::OfExpression),
-        SentenceHead::Nonempty => operand_extent(bytes, at + 1, scope, Kind::OfExpression),
-        SentenceHead::Not => operand_extent(bytes, at + 1, scope, Kind::OfSentence),
-        SentenceHead::Both => pair_extent(bytes, at + 1, scope, Kind::OfSentence),
+    match sentence_head(bytes, at)? {
+        SentenceHead::Within => expressions_extent(bytes, at + 1, scope),
+        SentenceHead::Nonempty => expression_extent(bytes, at + 1, scope),
+        SentenceHead::Not => sentence_extent(bytes, at + 1, scope),
+        SentenceHead::Both => {
+            let one = sentence_extent(bytes, at + 1, scope)?;
+            let other = sentence_extent(bytes, one.end, scope)?;
+            Some(Written {
+                value: one.value.max(other.value),
+                end: other.end,
+            })
+        }
         SentenceHead::ForEvery => {
-            if scope.spoken < DEEPEST {
-                let inner = Scope {
-                    relations: scope.relations,
-                    spoken: scope.spoken + 1,
-                };
-                let body = operand_extent(bytes, at + 1, inner, Kind::OfSentence)?;
-                Some(Extent {
-                    end: body.end,
-                    depth: body.depth + 1,
-                })
-            } else {
-                None
+            if scope.spoken >= DEEPEST {
+                return None;
             }
+            let inner = Scope {
+                spoken: scope.spoken + 1,
+                ..scope
+            };
+            let body = sentence_extent(bytes, at + 1, inner)?;
+            Some(Written {
+                value: body.value + 1,
+                end: body.end,
+            })
         }
     }
-}
-
-#[cycle(extent)]
-fn operand_extent(bytes: &[u8], at: usize, scope: Scope, kind: Kind) -> Option<Extent>
-    ensures { OperandExtent kind scope bytes.now at result }
-{
-    match kind {
-        Kind::OfExpression => expression_extent(bytes, at, scope),
-        Kind::OfSentence => sentence_extent(bytes, at, scope),
-    }
-}
-
-// Two operands, one after the other.
-#[cycle(extent)]
-fn pair_extent(bytes: &[u8], at: usize, scope: Scope, kind: Kind) -> Option<Extent>
-    ensures { PairExtent kind scope bytes.now at result }
-{
-    let one = operand_extent(bytes, at, scope, kind)?;
-    let other = operand_extent(bytes, one.end, scope, kind)?;
-    Some(Extent {
-        end: other.end,
-        depth: one.depth.max(other.depth),
-    })
 }

@@ -1,6 +1,6 @@
 // A head is what the writing of an expression or a sentence begins with: one byte, and for a
 // relation's or a thing's number one more.
-ghost use Rattle.descriptions.specs.Heads.{ByteAt, HeadE, HeadS};
+ghost use Rattle.descriptions.specs.Heads.{ByteAt, HeadE, HeadS, SentenceCode};
 
 use crate::{Binary, Unary};
 
@@ -23,31 +23,41 @@ pub enum SentenceHead {
     ForEvery,
 }
 
+// A byte that no sentence begins with.
+#[derive(Clone, Copy)]
+pub struct NoSentence;
+
+impl TryFrom<u8> for SentenceHead {
+    type Error = NoSentence;
+
+    ghost try_from_gives = { SentenceCode };
+
+    fn try_from(code: u8) -> Result<SentenceHead, NoSentence> {
+        match code {
+            20 => Ok(SentenceHead::Within),
+            21 => Ok(SentenceHead::Nonempty),
+            22 => Ok(SentenceHead::Not),
+            23 => Ok(SentenceHead::Both),
+            24 => Ok(SentenceHead::ForEvery),
+            _ => Err(NoSentence),
+        }
+    }
+}
+
 // The byte at a place, if there is one.
 pub fn byte(bytes: &[u8], at: usize) -> Option<u8>
     ensures { ByteAt bytes.now at result }
 {
-    if at < bytes.len() {
-        Some(bytes[at])
-    } else {
-        None
-    }
+    bytes.get(at).copied()
 }
 
 // The head of the expression that is written at a place.
 pub fn expression_head(bytes: &[u8], at: usize) -> Option<ExpressionHead>
     ensures { HeadE bytes.now at result }
 {
-    let code = byte(bytes, at)?;
-    match code {
-        0 => {
-            let relation = byte(bytes, at + 1)?;
-            Some(ExpressionHead::Named(relation))
-        }
-        1 => {
-            let thing = byte(bytes, at + 1)?;
-            Some(ExpressionHead::Thing(thing))
-        }
+    match byte(bytes, at)? {
+        0 => byte(bytes, at + 1).map(ExpressionHead::Named),
+        1 => byte(bytes, at + 1).map(ExpressionHead::Thing),
         2 => Some(ExpressionHead::Identity),
         3 => Some(ExpressionHead::Empty),
         4 => Some(ExpressionHead::Binary(Binary::Union)),
@@ -65,13 +75,5 @@ pub fn expression_head(bytes: &[u8], at: usize) -> Option<ExpressionHead>
 pub fn sentence_head(bytes: &[u8], at: usize) -> Option<SentenceHead>
     ensures { HeadS bytes.now at result }
 {
-    let code = byte(bytes, at)?;
-    match code {
-        20 => Some(SentenceHead::Within),
-        21 => Some(SentenceHead::Nonempty),
-        22 => Some(SentenceHead::Not),
-        23 => Some(SentenceHead::Both),
-        24 => Some(SentenceHead::ForEvery),
-        _ => None,
-    }
+    SentenceHead::try_from(byte(bytes, at)?).ok()
 }

@@ -3,14 +3,9 @@ ghost use Rattle.descriptions.specs.Reading.{OutlineSays};
 
 use crate::extents::{Scope, sentence_extent};
 use crate::heads::byte;
+use crate::shapes::Outline;
 
-// What has to be known of a description before pictures are looked for.
-#[derive(Clone, Copy)]
-pub struct Outline {
-    pub relations: u8,
-    pub depth: u8,
-}
-
+// Which description the bytes are, in outline; None where they are none.
 pub fn outline_of(description: &[u8]) -> Option<Outline>
     ensures { OutlineSays description.now result }
 {
@@ -29,7 +24,7 @@ pub fn outline_of(description: &[u8]) -> Option<Outline>
     if extent.end == description.len() {
         Some(Outline {
             relations,
-            depth: extent.depth,
+            depth: extent.value,
         })
     } else {
         None

@@ -6,24 +6,24 @@ ghost use Rattle.std.specs.Prelude.{◌≡◌, ◌<◌, ◌≤◌};
 ghost use Rattle.draw.specs.Cells.{marked};
 
 use descriptions::outline_of;
-use pictures::{Found, find};
-use std::alloc::AllocError;
+use pictures::{Refusal, find};
+use std::alloc::{AllocError, Global};
 use std::io;
 
 const MOST: u32 = 3;
 // With the picture's bytes and a line of input, all buffers stay below 4 MiB.
 const WORK_WORDS: usize = 1_046_000;
 
-// The bytes that a line says, in bytes; false where a word of it is no byte.
-fn read_bytes(line: &str, bytes: &mut Vec<u8>) -> Result<bool, AllocError> {
-    bytes.clear();
+// The bytes that a line says; None where a word of it is no byte.
+fn bytes_of(heap: Global, line: &str) -> Result<Option<Vec<u8>>, AllocError> {
+    let mut bytes = Vec::new(heap);
     for word in line.split_whitespace() {
-        match word.parse::<u8>() {
-            Ok(byte) => bytes.push(byte)?,
-            Err(_) => return Ok(false),
-        }
+        let Ok(byte) = word.parse::<u8>() else {
+            return Ok(None);
+        };
+        bytes.push(byte)?;
     }
-    Ok(true)
+    Ok(Some(bytes))
 }
 
 // Whether a picture's relation holds of a first and a second thing.
@@ -32,17 +32,7 @@ fn is_marked(bits: &[u8], things: usize, relation: usize, first: usize, second: 
     ensures { result ≡ marked bits.now things relation first second }
 {
     let place = (relation * things + first) * things + second;
-    place < bits.len() && bits[place] == 1
-}
-
-// How many relations a description is about.
-fn relations_of(description: &[u8]) -> usize
-    ensures { result ≤ 8 }
-{
-    match outline_of(description) {
-        Some(outline) => outline.relations.min(8) as usize,
-        None => 0,
-    }
+    bits.get(place) == Some(&1)
 }
 
 // One relation as a table: first things down, second things across.
@@ -68,28 +58,32 @@ fn draw_table(rt: &HostRuntime, bits: &[u8], things: usize, relation: usize) -> 
     Ok(())
 }
 
-// What is said where no picture came.
-fn reason(found: Found) -> &'static str {
-    match found {
-        Found::First(_) => "first picture",
-        Found::None => "none of up to three things",
-        Found::NoDescription =>
-            "no description: a line has the number of relations, then a sentence in prefix order",
-        Found::OutFull => "out full",
-        Found::Few => "few: the description wants more than 4 MiB of work memory for three things",
+// What there is to say to a refusal.
+fn hint(refusal: Refusal) -> &'static str {
+    match refusal {
+        Refusal::NoDescription =>
+            ": a line has the number of relations, then a sentence in prefix order",
+        Refusal::OutFull => "",
+        Refusal::Few => ": the description wants more than 4 MiB of work memory for three things",
     }
 }
 
 // Finds and draws, relation by relation.
 fn answer(rt: &HostRuntime, description: &[u8], work: &mut [u32]) -> io::Result<()> {
     let mut out = [0; 72];
-    let found = find(description, MOST, &mut out, work);
-    let Found::First(things) = found else {
-        let text = reason(found);
-        return println!(rt; "{text}");
+    let found = match find(description, MOST, &mut out, work) {
+        Ok(found) => found,
+        Err(refusal) => {
+            let hint = hint(refusal);
+            return println!(rt; "{refusal}{hint}");
+        }
+    };
+    let Some(things) = found else {
+        return println!(rt; "none of up to three things");
     };
     println!(rt; "first picture: {things} things")?;
-    for relation in 0..relations_of(description) {
+    let relations = outline_of(description).map_or(0, |outline| outline.relations);
+    for relation in 0..relations as usize {
         draw_table(rt, &out, things, relation)?;
     }
     Ok(())
@@ -98,7 +92,6 @@ fn answer(rt: &HostRuntime, description: &[u8], work: &mut [u32]) -> io::Result<
 fn main(rt: HostRuntime) -> io::Result<()> {
     let heap = rt.alloc();
     let mut work = vec![in heap; 0; WORK_WORDS]?;
-    let mut bytes = Vec::new(heap);
     for line in rt.lines(heap) {
         let line = line?;
         let text = line.as_str();
@@ -106,10 +99,9 @@ fn main(rt: HostRuntime) -> io::Result<()> {
         if text.is_empty() || text.starts_with('#') {
             continue;
         }
-        if read_bytes(text, &mut bytes)? {
-            answer(&rt, bytes.as_slice(), work.as_mut_slice())?;
-        } else {
-            println!(rt; "not read: a line has decimal bytes with blanks between them")?;
+        match bytes_of(heap, text)? {
+            Some(bytes) => answer(&rt, bytes.as_slice(), work.as_mut_slice())?,
+            None => println!(rt; "not read: a line has decimal bytes with blanks between them")?,
         }
     }
     Ok(())

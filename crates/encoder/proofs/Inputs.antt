@@ -1,17 +1,11 @@
 -- Variables of pictures.
-use Rattle.std.proofs.Common.{◌≡◌, ℕ, ◌+◌, ◌*◌, ◌<◌, ◌≤◌, false, get_or, sym, ap, ◌∙◌, mul_assoc, add-mul, mul-le-mul, arith}
+use Rattle.std.proofs.Common.{◌≡◌, ℕ, ◌+◌, ◌*◌, ◌<◌, false, get_or, sym, ap, ◌∙◌, mul_assoc, add-mul, arith}
 use Rattle.std.proofs.lemmas.Bool.{lt-ltb}
 use Rattle.descriptions.specs.Pictures.{Picture, relation_of}
 use Rattle.clauses.specs.Formulas.{Assignment}
 use Rattle.evaluator.proofs.Pictures.{row_fits}
 use Rattle.tables.proofs.Filling.{place_lt}
 use Rattle.encoder.specs.Encoding.{Draws}
-
-pub few_pairs : (m : ℕ) → m ≤ 8 → m * m ≤ 64
-few_pairs m h = mul-le-mul h h
-
-pub few_bits : (r m : ℕ) → r < 8 → m ≤ 8 → r * (m * m) ≤ 512
-few_bits r m h k = let a : r ≤ 8 = omega arith in mul-le-mul a (few_pairs m k)
 
 -- the place of a pair's bit
 place_of : (r m i j : ℕ) → (r * m + i) * m + j ≡ r * (m * m) + (i * m + j)

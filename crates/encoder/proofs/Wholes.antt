@@ -9,13 +9,13 @@ use Rattle.descriptions.specs.Bytes.{write_s, fine_s, Reads}
 use Rattle.descriptions.specs.Reading.{Stands, Absent}
 use Rattle.descriptions.proofs.Unique.{unique_s}
 use Rattle.descriptions.proofs.Parts.{stands_one}
-use Rattle.evaluator.specs.declared.evaluating.Environment.{Environment}
+use Rattle.evaluator.specs.declared.speaking.Environment.{Environment}
+use Rattle.descriptions.specs.declared.shapes.Shape.{Shape}
 use Rattle.evaluator.specs.Speaking.{seen, Silent}
 use Rattle.clauses.specs.Formulas.{Assignment}
 use Rattle.gates.specs.declared.circuit.Circuit.{Circuit}
 use Rattle.gates.proofs.Runs.{extends}
-use Rattle.encoder.specs.declared.encoding.Shape.{Shape}
-use Rattle.encoder.specs.Encoding.{bits_of, Draws, drawn, size_s, TooFew, EncodesS, Encoded}
+use Rattle.encoder.specs.Encoding.{bits, Draws, drawn, size_s, TooFew, EncodesS, Encoded}
 use Rattle.encoder.specs.Theorems.{ModelsHavePictures, PicturesHaveModels}
 
 -- the bytes after the first are the sentence's
@@ -23,13 +23,13 @@ after_first : (s : List ℕ) (d : Description) → Reads s d → drop 1 s ≡ wr
 after_first s d r = ap (λ (z : List ℕ). drop 1 z) r.written ∙ sym (append-nil (write_s d.sentence))
 
 module _ (x : Shape) (s : List ℕ) (c d : Circuit) (v : Environment) (silent : Silent v) where
-  pub encoded_none : Absent write_s (fine_s x.relations v.count) s 1 (λ e. TooFew c d (size_s x.things e)) → Encoded x s c d None
+  pub encoded_none : Absent write_s (fine_s x.relations v.count) s 1 (λ e. TooFew c d (size_s x.size.things e)) → Encoded x s c d None
   encoded_none f e r q =
       f e.sentence [] (subst (λ (z : ℕ). fine_s x.relations z e.sentence ≡ true) (sym silent.count) (subst (λ (z : ℕ). fine_s z 0 e.sentence ≡ true) q r.fine)) (after_first s e r)
 
-  pub encoded_some : (end l : ℕ) → Stands write_s (fine_s x.relations v.count) s 1 end (λ e. EncodesS x (seen v) c d l e) → Encoded x s c d (Some l)
+  pub encoded_some : (end l : ℕ) → Stands write_s (fine_s x.relations v.count) s 1 end (λ e. EncodesS x.relations x.size.things (seen v) c d l e) → Encoded x s c d (Some l)
   encoded_some end l f e r q =
-      subst (λ (w : List ℕ). EncodesS x w c d l e.sentence) silent.none (stands_one write_s (fine_s x.relations v.count) s 1 end _ unique_s f e.sentence [] (after_first s e r))
+      subst (λ (w : List ℕ). EncodesS x.relations x.size.things w c d l e.sentence) silent.none (stands_one write_s (fine_s x.relations v.count) s 1 end _ unique_s f e.sentence [] (after_first s e r))
 
 -- the picture that an assignment draws
 pub drawn_length : (n : ℕ) (α : Assignment) → length (drawn n α) ≡ n
@@ -41,8 +41,8 @@ unfolding drawn
 draws_drawn n α k h = sym (get_or-map-range_with_len (λ i. α (1 + i)) 0 n k k false h (omega arith))
 
 pub models_have_pictures : ModelsHavePictures
-models_have_pictures x v c t l d means e w α m =
-    (drawn_length (bits_of x) α ∙ ap (λ (z : ℕ). z * (x.things * x.things)) (sym e), means.is α (w.goes α m) (drawn (bits_of x) α) (draws_drawn (bits_of x) α))
+models_have_pictures relations things c t l d means e w α m =
+    (drawn_length (bits relations things) α ∙ ap (λ (z : ℕ). z * (things * things)) (sym e), means.is α (w.goes α m) (drawn (bits relations things) α) (draws_drawn (bits relations things) α))
 
 -- an assignment of the inputs that draws a picture
 inputs : Picture → Assignment
@@ -57,7 +57,7 @@ unfolding inputs
 inputs_top p = refl
 
 pub pictures_have_models : PicturesHaveModels
-pictures_have_models x c l d sound room means p =
-    let q = extends c (inputs p) sound (inputs_top p) in
-    let draws : Draws (bits_of x) q.0 p = λ k h. q.2 (1 + k) (omega arith) ∙ inputs_at p k in
+pictures_have_models relations things c l d room means p =
+    let q = extends c (inputs p) (inputs_top p) in
+    let draws : Draws (bits relations things) q.0 p = λ k h. q.2 (1 + k) (omega arith) ∙ inputs_at p k in
     (q.0, q.1, draws, means.is q.0 q.1 p draws)

@@ -4,22 +4,20 @@ use Rattle.descriptions.specs.Pictures.{Picture}
 use Rattle.descriptions.specs.Meaning.{Sentence, Description, of}
 use Rattle.descriptions.specs.Bytes.{write_s, depth}
 use Rattle.descriptions.specs.Theorems.{Sized}
-use Rattle.clauses.specs.declared.store.Store.{Store}
 use Rattle.clauses.specs.Formulas.{Assignment, value, Models}
-use Rattle.clauses.specs.Stores.{formula_of}
+use Rattle.clauses.specs.Views.{StoreView}
 use Rattle.gates.specs.declared.circuit.Circuit.{Circuit}
-use Rattle.gates.specs.Circuits.{GoesC, SoundC}
+use Rattle.gates.specs.Circuits.{GoesC}
 use Rattle.gates.specs.Writing.{Written}
-use Rattle.encoder.specs.declared.encoding.Shape.{Shape}
-use Rattle.encoder.specs.Encoding.{bits_of, Draws, drawn, size_s, Means}
+use Rattle.encoder.specs.Encoding.{bits, Draws, drawn, size_s, Means}
 
 -- from a model of the clauses one reads a picture, and the description's literal is true where the picture is of it
 abbrev pub ModelsHavePictures : Type 0
-ModelsHavePictures = (x : Shape) (v : ℕ) (c : Circuit) (t : Store) (l : ℕ) (d : Description) → Means x [] c l d.sentence → d.relations ≡ x.relations → Written v c t → (α : Assignment) → Models (formula_of t) α → Sized d x.things (drawn (bits_of x) α) × (value α l ≡ of d x.things (drawn (bits_of x) α))
+ModelsHavePictures = (relations things : ℕ) (c : Circuit) (t : StoreView) (l : ℕ) (d : Description) → Means relations things [] c l d.sentence → d.relations ≡ relations → Written c t → (α : Assignment) → Models (t.formula) α → Sized d things (drawn (bits relations things) α) × (value α l ≡ of d things (drawn (bits relations things) α))
 
 -- each picture is drawn by an assignment that goes with the gates
 abbrev pub PicturesHaveModels : Type 0
-PicturesHaveModels = (x : Shape) (c : Circuit) (l : ℕ) (d : Description) → SoundC c → 1 + bits_of x ≤ c.base → Means x [] c l d.sentence → (p : Picture) → (α : Assignment) × GoesC c α × Draws (bits_of x) α p × (value α l ≡ of d x.things p)
+PicturesHaveModels = (relations things : ℕ) (c : Circuit) (l : ℕ) (d : Description) → 1 + bits relations things ≤ c.base → Means relations things [] c l d.sentence → (p : Picture) → (α : Assignment) × GoesC c α × Draws (bits relations things) α p × (value α l ≡ of d things p)
 
 -- gates are few
 abbrev pub GatesAreFew : Type 0

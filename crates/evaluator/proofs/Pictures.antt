@@ -1,17 +1,21 @@
 -- Pictures packed into words.
-use Rattle.std.proofs.Common.{◌≡◌, ℕ, zero, suc, ◌+◌, ◌-◌, ◌*◌, ◌/◌, ◌%◌, ◌<◌, ◌≤◌, Bool, true, false, cond, ◌&&◌, ◌||◌, eqb, ltb, ◌⊎◌, List, [], ◌∷◌, length, get_or, take, drop, set, sym, refl, ap, ◌∙◌, inl, inr, add_assoc, mul-le-mul_right, mul_assoc, suc-mul, add-mul, arith, below_more}
-use Rattle.std.proofs.lemmas.Nat.{div-mul-add, mod-mul-add, div_below, mod_below, div-add-mod'}
+use Rattle.std.proofs.Common.{◌≡◌, ℕ, zero, suc, ◌+◌, ◌*◌, ◌/◌, ◌%◌, ◌<◌, ◌≤◌, Bool, true, false, cond, ◌&&◌, ◌||◌, eqb, ltb, ◌⊎◌, List, [], ◌∷◌, ◌++◌, length, get_or, take, drop, set, sym, refl, ap, ◌∙◌, inl, inr, add_assoc, mul-le-mul_right, mul_assoc, suc-mul, add-mul, arith, below_more}
+use Rattle.std.proofs.lemmas.Nat.{div-mul-add, mod-mul-add, div-add-mod'}
+use Rattle.std.proofs.Math.Bool.{or-false}
+use Rattle.std.proofs.Math.Seq.{take-append_seam, drop-append_seam}
 use Rattle.std.proofs.lemmas.List.FromFn.{get_or-map-range_with_len, length-map-range_with_len}
-use Rattle.std.proofs.lemmas.List.{ext_get_or, length-take-le, length-drop, length-set, get_or-take, get_or-drop, get_or-set_same, get_or-set_other}
+use Rattle.std.proofs.lemmas.List.{ext_get_or, length-set, get_or-set_same, get_or-set_other}
 use Rattle.std.proofs.lemmas.Bool.{lt-ltb, eq-eqb, ne_eqb, eqb-true, cases_eq}
 use Rattle.descriptions.specs.Pictures.{Picture, relation_of}
 use Rattle.descriptions.proofs.Quantifiers.{same_truth}
 use Rattle.matrices.specs.Words.{bit, matrix}
 use Rattle.matrices.proofs.Bits.{bit_zero}
-use Rattle.matrices.proofs.Fill.{square, place_below}
+use Rattle.matrices.proofs.Fill.{place_below}
 use Rattle.evaluator.specs.declared.packing.Packed.{Packed}
-use Rattle.evaluator.specs.declared.packing.Spot.{Spot}
-use Rattle.evaluator.specs.Packing.{bit_at, size, unpacked, bits, SpotAt, Unpacks, Packs}
+use Rattle.descriptions.specs.declared.shapes.Shape.{Shape}
+use Rattle.descriptions.specs.declared.shapes.Spot.{Spot}
+use Rattle.descriptions.specs.Shapes.{SpotAt}
+use Rattle.evaluator.specs.Packing.{bit_at, size, unpacked, bits, Unpacks, Packs}
 
 -- a relation's bits lie before those of the next
 pub row_fits : (r n q : ℕ) → r < n → r * q + q ≤ n * q
@@ -21,13 +25,13 @@ place_sum : (m r i j : ℕ) → (r * m + i) * m + j ≡ r * (m * m) + (i * m + j
 place_sum m r i j = ap (λ (x : ℕ). x + j) (add-mul (r * m) i m ∙ ap (λ (x : ℕ). x + i * m) (mul_assoc r m m)) ∙ add_assoc (r * (m * m)) (i * m) j
 
 -- a word is the relation of its number
-pub relation_is : (p : Packed) (r i j : ℕ) → r < p.relations → i < p.things → j < p.things → relation_of p.things (unpacked p) r i j ≡ matrix p.things (get_or p.words r 0) i j
+pub relation_is : (p : Packed) (r i j : ℕ) → r < p.shape.relations → i < p.shape.size.things → j < p.shape.size.things → relation_of p.shape.size.things (unpacked p) r i j ≡ matrix p.shape.size.things (get_or p.words r 0) i j
 relation_is p r i j hr hi hj =
-    let m : ℕ = p.things in
+    let m : ℕ = p.shape.size.things in
     let q : ℕ = m * m in
     let t : ℕ = i * m + j in
     let lt : t < q = place_below m i j hi hj in
-    let k : r * q + t < p.relations * q = let f = row_fits r p.relations q hr in omega arith in
+    let k : r * q + t < p.shape.relations * q = let f = row_fits r p.shape.relations q hr in omega arith in
     let e : (r * m + i) * m + j ≡ r * q + t = place_sum m r i j in
     ap (λ (b : Bool). b && (ltb j m && get_or (unpacked p) ((r * m + i) * m + j) false)) (lt-ltb i m hi)
     ∙ ap (λ (b : Bool). b && get_or (unpacked p) ((r * m + i) * m + j) false) (lt-ltb j m hj)
@@ -35,16 +39,6 @@ relation_is p r i j hr hi hj =
     ∙ get_or-map-range_with_len (bit_at p.words m) 0 (size p) (r * q + t) (r * q + t) false k (omega arith)
     ∙ ap (λ (x : ℕ). bit (get_or p.words x 0) ((r * q + t) % q)) (div-mul-add r q t lt)
     ∙ ap (λ (x : ℕ). bit (get_or p.words r 0) x) (mod-mul-add r q t lt)
-
--- where a bit stands
-positive : (n q k : ℕ) → k < n * q → 0 < q
-positive n zero k h = absurd (let e : n * 0 ≡ 0 = omega arith in omega arith)
-positive n (suc q) k h = omega arith
-
-pub spot_is : (n k m : ℕ) → m ≤ 8 → k < n * (m * m) → SpotAt n k m (record { relation = k / (m * m); place = k % (m * m) })
-spot_is n k m h l =
-    let p = positive n (m * m) k l in
-    record { relation = refl; place = refl; known = div_below k (m * m) n p l; low = let a = mod_below k (m * m) p in let s = square m h in omega arith }
 
 -- bits written one a byte
 pub length_bits : (p : Picture) → length (bits p) ≡ length p
@@ -64,10 +58,10 @@ pub bits_small : (p : Picture) (k : ℕ) → get_or (bits p) k 0 ≤ 1
 bits_small p k = rw (get_d_bits p k) (bit_small (get_or p k false))
 
 pub length_unpacked : (p : Packed) → length (unpacked p) ≡ size p
-length_unpacked p = length-map-range_with_len (bit_at p.words p.things) 0 (size p)
+length_unpacked p = length-map-range_with_len (bit_at p.words p.shape.size.things) 0 (size p)
 
-pub get_or_unpacked : (p : Packed) (k : ℕ) → k < size p → get_or (unpacked p) k false ≡ bit_at p.words p.things k
-get_or_unpacked p k h = get_or-map-range_with_len (bit_at p.words p.things) 0 (size p) k k false h (omega arith)
+pub get_or_unpacked : (p : Packed) (k : ℕ) → k < size p → get_or (unpacked p) k false ≡ bit_at p.words p.shape.size.things k
+get_or_unpacked p k h = get_or-map-range_with_len (bit_at p.words p.shape.size.things) 0 (size p) k k false h (omega arith)
 
 -- a word changed at a spot changes the picture's bit there, and no other
 module _ (ws : List ℕ) (m place w : ℕ) (change : Bool → Bool → Bool) (still : (b : Bool) → change false b ≡ b) where
@@ -92,23 +86,19 @@ module _ (ws : List ℕ) (m place w : ℕ) (change : Bool → Bool → Bool) (st
   pub bit_at_changed : (k : ℕ) → place / q < length ws → ((j : ℕ) → bit w j ≡ change (eqb j (place % q)) (bit (get_or ws (place / q) 0) j)) → bit_at (set ws (place / q) w) m k ≡ change (eqb k place) (bit_at ws m k)
   bit_at_changed k l f = bit_at_by k l f (cases_eq (k / q) (place / q))
 
--- a picture that has been written up to a place
-pub record Writing (p : Packed) (o o' : List ℕ) (at : ℕ) : Type 0 where
-  pub done : (k : ℕ) → k < at → get_or o' k 0 ≡ cond (bit_at p.words p.things k) 1 0
-  pub rest : (k : ℕ) → at ≤ k → get_or o' k 0 ≡ get_or o k 0
+-- bytes that a picture's bits are written into up to a place
+abbrev pub Writing : Packed → List ℕ → ℕ → Type 0
+Writing p xs at = (k : ℕ) → k < at → get_or xs k 0 ≡ cond (bit_at p.words p.shape.size.things k) 1 0
 
-pub writing_all : (p : Packed) (o o' : List ℕ) (at : ℕ) → length o' ≡ length o → at ≡ size p → size p ≤ length o → Writing p o o' at → Unpacks p o o'
-writing_all p o o' at l e fit w =
-    let n : ℕ = size p in
+pub writing_all : (p : Packed) (o xs : List ℕ) (n at : ℕ) → n ≡ size p → length xs ≡ n → n ≤ at → Writing p xs at → Unpacks p o (xs ++ drop n o)
+writing_all p o xs n at e l le w =
+    let same : xs ≡ bits (unpacked p) =
+    ext_get_or 0 xs (bits (unpacked p)) (l ∙ e ∙ sym (length_bits (unpacked p) ∙ length_unpacked p))
+    (λ k h. w k (omega arith) ∙ sym (get_d_bits (unpacked p) k ∙ ap (λ (b : Bool). cond b 1 0) (get_or_unpacked p k (omega arith)))) in
+    let f : size p ≡ length xs = sym (l ∙ e) in
     record {
-      first =
-          ext_get_or 0 (take n o') (bits (unpacked p)) (length-take-le n o' (omega arith) ∙ sym (length_bits (unpacked p) ∙ length_unpacked p))
-          (λ k h.
-          let h' : k < n = omega (arith, length-take-le n o' (omega arith)) in
-          get_or-take n o' k 0 h' ∙ w.done k (omega arith) ∙ sym (get_d_bits (unpacked p) k ∙ ap (λ (b : Bool). cond b 1 0) (get_or_unpacked p k h')));
-      rest =
-          ext_get_or 0 (drop n o') (drop n o) (length-drop n o' ∙ ap (λ (x : ℕ). x - n) l ∙ sym (length-drop n o))
-          (λ k h. get_or-drop n o' k 0 ∙ w.rest (n + k) (omega arith) ∙ sym (get_or-drop n o k 0));
+      first = ap (λ (x : ℕ). take x (xs ++ drop n o)) f ∙ take-append_seam xs (drop n o) ∙ same;
+      rest = ap (λ (x : ℕ). drop x (xs ++ drop n o)) f ∙ drop-append_seam xs (drop n o) ∙ ap (λ (x : ℕ). drop x o) e;
     }
 
 -- a picture that has been read up to a place
@@ -138,10 +128,6 @@ bit_at_zeros m k = ap (λ (x : ℕ). bit x (k % (m * m))) (zeros (k / (m * m))) 
 pub reading_none : (n m : ℕ) (s : List ℕ) → Reading n m s no_words 0
 reading_none n m s = record { long = refl; neat = λ k h. absurd (omega arith); done = λ k h. absurd (omega arith); blank = λ k h. bit_at_zeros m k }
 
-or_false : (b : Bool) → ((true && b) || false) ≡ b
-or_false true = refl
-or_false false = refl
-
 pub reading_more : (n m : ℕ) (s ws : List ℕ) (at w : ℕ) (spot : Spot) → n ≤ 8 → SpotAt n at m spot → get_or s at 0 ≤ 1 → ((j : ℕ) → bit w j ≡ ((eqb j spot.place && eqb (get_or s at 0) 1) || bit (get_or ws spot.relation 0) j)) → Reading n m s ws at → Reading n m s (set ws spot.relation w) (at + 1)
 reading_more n m s ws at w spot few here small f r =
     let b : Bool = eqb (get_or s at 0) 1 in
@@ -151,7 +137,7 @@ reading_more n m s ws at w spot few here small f r =
     record {
       long = length-set ws spot.relation w ∙ r.long;
       neat = below_more _ _ r.neat small;
-      done = below_more _ _ (λ k h. each k ∙ ap (λ (x : Bool). (x && b) || bit_at ws m k) (ne_eqb k at (omega arith)) ∙ r.done k h) (each at ∙ ap (λ (x : Bool). (x && b) || bit_at ws m at) (eq-eqb at at refl) ∙ ap (λ (x : Bool). (true && b) || x) (r.blank at (omega arith)) ∙ or_false b);
+      done = below_more _ _ (λ k h. each k ∙ ap (λ (x : Bool). (x && b) || bit_at ws m k) (ne_eqb k at (omega arith)) ∙ r.done k h) (each at ∙ ap (λ (x : Bool). (x && b) || bit_at ws m at) (eq-eqb at at refl) ∙ ap (λ (x : Bool). (true && b) || x) (r.blank at (omega arith)) ∙ or-false b);
       blank = λ k h. each k ∙ ap (λ (x : Bool). (x && b) || bit_at ws m k) (ne_eqb k at (omega arith)) ∙ r.blank k (omega arith);
     }
 
@@ -160,14 +146,13 @@ bit_is zero h = refl
 bit_is (suc zero) h = refl
 bit_is (suc (suc x)) h = absurd (omega arith)
 
-pub reading_all : (n m : ℕ) (s ws : List ℕ) (at : ℕ) → n ≤ 8 → m ≤ 8 → at ≡ n * (m * m) → length s ≡ n * (m * m) → Reading n m s ws at → Packs n m s (record { words = ws; relations = n; things = m })
-reading_all n m s ws at hn hm e l r =
-    let p : Packed = record { words = ws; relations = n; things = m } in
+pub reading_all : (z : Shape) (s ws : List ℕ) (at : ℕ) → at ≡ z.relations * (z.size.things * z.size.things) → length s ≡ at → (long : length ws ≡ 8) → Reading z.relations z.size.things s ws at → Packs z.relations z.size.things s (record { words = ws; shape = z; long = long })
+reading_all z s ws at e l long r =
+    let p : Packed = record { words = ws; shape = z; long = long } in
     record {
-      fits = record { long = r.long; few = hn; small = hm };
       relations = refl;
       things = refl;
       bytes =
-          ext_get_or 0 s (bits (unpacked p)) (l ∙ sym (length_bits (unpacked p) ∙ length_unpacked p))
+          ext_get_or 0 s (bits (unpacked p)) (l ∙ e ∙ sym (length_bits (unpacked p) ∙ length_unpacked p))
           (λ k h. bit_is (get_or s k 0) (r.neat k (omega arith)) ∙ ap (λ (b : Bool). cond b 1 0) (sym (get_or_unpacked p k (omega arith) ∙ r.done k (omega arith))) ∙ sym (get_d_bits (unpacked p) k));
     }

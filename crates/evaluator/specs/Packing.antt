@@ -3,17 +3,8 @@ use Rattle.std.specs.Prelude.{◌≡◌, ℕ, ◌*◌, ◌/◌, ◌%◌, ◌<◌
 use Rattle.std.specs.List.{range_with_len}
 use Rattle.descriptions.specs.Pictures.{Picture}
 use Rattle.matrices.specs.Words.{bit}
+use Rattle.descriptions.specs.declared.shapes.Shape.{Shape}
 use Rattle.evaluator.specs.declared.packing.Packed.{Packed}
-use Rattle.evaluator.specs.declared.packing.Spot.{Spot}
-
--- eight words, of which so many relations of so many things use some
-pub record Fits (relations things : ℕ) (words : List ℕ) : Type 0 where
-  pub long : length words ≡ 8
-  pub few : relations ≤ 8
-  pub small : things ≤ 8
-
-abbrev pub FitsP : Packed → Type 0
-FitsP p = Fits p.relations p.things p.words
 
 -- bit k of the picture of m things
 abbrev pub bit_at : List ℕ → ℕ → ℕ → Bool
@@ -21,22 +12,15 @@ bit_at ws m k = bit (slice_index ws (k / (m * m))) (k % (m * m))
 
 -- how many bits there are, and the picture that they are
 abbrev pub size : Packed → ℕ
-size p = p.relations * (p.things * p.things)
+size p = p.shape.relations * (p.shape.size.things * p.shape.size.things)
 
 abbrev pub unpacked : Packed → Picture
-unpacked p = map (bit_at p.words p.things) (range_with_len 0 (size p))
+unpacked p = map (bit_at p.words p.shape.size.things) (range_with_len 0 (size p))
 
 -- a picture written one bit a byte
 abbrev pub bits : Picture → List ℕ
 bits [] = []
 bits (b ∷ p) = cond b 1 0 ∷ bits p
-
--- where a bit of the picture stands
-pub record SpotAt (relations k m : ℕ) (s : Spot) : Type 0 where
-  pub relation : s.relation ≡ k / (m * m)
-  pub place : s.place ≡ k % (m * m)
-  pub known : s.relation < relations
-  pub low : s.place < 64
 
 -- the picture stands first in the bytes, and the rest is as it was
 pub record Unpacks (p : Packed) (o o' : List ℕ) : Type 0 where
@@ -45,11 +29,15 @@ pub record Unpacks (p : Packed) (o o' : List ℕ) : Type 0 where
 
 -- bytes read as a picture of m things with n relations: which one, or that they are none
 pub record Packs (n m : ℕ) (s : List ℕ) (p : Packed) : Type 0 where
-  pub fits : FitsP p
-  pub relations : p.relations ≡ n
-  pub things : p.things ≡ m
+  pub relations : p.shape.relations ≡ n
+  pub things : p.shape.size.things ≡ m
   pub bytes : s ≡ bits (unpacked p)
 
-abbrev pub PackSays : ℕ → ℕ → List ℕ → Option Packed → Type 0
-PackSays n m s None = n ≤ 8 → m ≤ 8 → (q : Picture) → length q ≡ n * (m * m) → s ≢ bits q
-PackSays n m s (Some p) = Packs n m s p
+abbrev pub PackSays : Shape → List ℕ → Option Packed → Type 0
+PackSays z s None = (q : Picture) → length q ≡ z.relations * (z.size.things * z.size.things) → s ≢ bits q
+PackSays z s (Some p) = Packs z.relations z.size.things s p
+
+-- the word of relation r, if there is one
+abbrev pub RelationAt : Packed → ℕ → Option ℕ → Type 0
+RelationAt p r None = p.shape.relations ≤ r
+RelationAt p r (Some w) = (r < p.shape.relations) × (w ≡ slice_index p.words r)

@@ -1,223 +1,175 @@
 // Evaluation over bytes: an expression's relation as a word, a sentence's truth, each with where its
 // writing ends. 'For every' evaluates its sentence once for each thing.
-ghost use Rattle.std.specs.Prelude.{◌+◌, ◌<◌};
-ghost use Rattle.evaluator.specs.Packing.{FitsP};
-ghost use Rattle.evaluator.specs.Speaking.{Sees, Extended, Silent};
-ghost use Rattle.evaluator.specs.Evaluating.{ValueSays, ValuesSay, TruthSays, EverySaysIf, JudgedIf};
+ghost use Rattle.evaluator.specs.Speaking.{Sees};
+ghost use Rattle.evaluator.specs.Evaluating.{JudgedIf};
 
 use crate::packing::Packed;
+use crate::speaking::Environment;
 use descriptions::{
-    DEEPEST, ExpressionHead, Scope, SentenceHead, byte, expression_head, sentence_extent,
+    DEEPEST, ExpressionHead, Scope, SentenceHead, Written, byte, expression_head, sentence_extent,
     sentence_head,
 };
 use matrices::{combined, identity, nonempty, single, transformed, within};
 
-// The things spoken of, the newest first.
+// Reads a description's bytes as what they say of a picture, with some of its things spoken of.
 #[derive(Clone, Copy)]
-pub struct Environment {
-    pub things: [usize; 4],
-    pub count: usize,
+struct Reader<'a> {
+    bytes: &'a [u8],
+    picture: &'a Packed,
+    spoken: Environment,
+    ghost sees: { Sees picture.now.shape.size.things spoken },
 }
 
-// The relation that an expression stands for, and where its writing ends.
-#[derive(Clone, Copy)]
-pub struct Value {
-    pub word: u64,
-    pub end: usize,
-}
+impl<'a> Reader<'a> {
+    ghost use Rattle.std.specs.Prelude.{◌<◌};
+    ghost use Rattle.evaluator.specs.Evaluating.{ValueSays, ValuesSay, TruthSays, EverySaysIf};
 
-// The relations of two expressions, one after the other.
-#[derive(Clone, Copy)]
-pub struct Values {
-    pub one: u64,
-    pub other: u64,
-    pub end: usize,
-}
-
-// Whether a sentence holds, and where its writing ends.
-#[derive(Clone, Copy)]
-pub struct Truth {
-    pub holds: bool,
-    pub end: usize,
-}
-
-// Nothing spoken of yet.
-pub fn silence() -> Environment
-    ensures { Silent result }
-{
-    Environment {
-        things: [0, 0, 0, 0],
-        count: 0,
-    }
-}
-
-// One thing more spoken of.
-pub fn extended(spoken: Environment, thing: usize, things: usize) -> Environment
-    requires { (Sees things spoken) × (spoken.count < 4) }
-    ensures { Extended things spoken thing result }
-{
-    let [first, second, third, _] = spoken.things;
-    Environment {
-        things: [thing, first, second, third],
-        count: spoken.count + 1,
-    }
-}
-
-#[cycle(values)]
-fn expression_value(bytes: &[u8], at: usize, picture: &Packed, spoken: Environment) -> Option<Value>
-    requires { (FitsP picture.now) × (Sees picture.now.things spoken) }
-    ensures { ValueSays picture.now spoken bytes.now at result }
-{
-    let head = expression_head(bytes, at)?;
-    match head {
-        ExpressionHead::Named(number) => {
-            let relation = number as usize;
-            if relation < picture.relations {
-                Some(Value {
-                    word: picture.words[relation],
-                    end: at + 2,
+    // The relation that an expression stands for.
+    #[cycle(values)]
+    fn expression(&self, at: usize) -> Option<Written<u64>>
+        ensures { ValueSays self.now.picture.now self.now.spoken self.now.bytes.now at result }
+    {
+        let size = self.picture.shape.size;
+        match expression_head(self.bytes, at)? {
+            ExpressionHead::Named(number) => Some(Written {
+                value: self.picture.relation(number)?,
+                end: at + 2,
+            }),
+            ExpressionHead::Thing(number) => Some(Written {
+                value: single(self.spoken.thing(number)?, size),
+                end: at + 2,
+            }),
+            ExpressionHead::Identity => Some(Written {
+                value: identity(size),
+                end: at + 1,
+            }),
+            ExpressionHead::Empty => Some(Written {
+                value: 0,
+                end: at + 1,
+            }),
+            ExpressionHead::Unary(operator) => {
+                let one = self.expression(at + 1)?;
+                Some(Written {
+                    value: transformed(operator, one.value, size),
+                    end: one.end,
                 })
-            } else {
-                None
+            }
+            ExpressionHead::Binary(operator) => {
+                let both = self.pair(at + 1)?;
+                let (one, other) = both.value;
+                Some(Written {
+                    value: combined(operator, one, other, size),
+                    end: both.end,
+                })
             }
         }
-        ExpressionHead::Thing(number) => {
-            let thing = number as usize;
-            if thing < spoken.count {
-                Some(Value {
-                    word: single(spoken.things[thing], picture.things),
-                    end: at + 2,
-                })
-            } else {
-                None
-            }
-        }
-        ExpressionHead::Identity => Some(Value {
-            word: identity(picture.things),
-            end: at + 1,
-        }),
-        ExpressionHead::Empty => Some(Value {
-            word: 0,
-            end: at + 1,
-        }),
-        ExpressionHead::Unary(operator) => {
-            let one = expression_value(bytes, at + 1, picture, spoken)?;
-            Some(Value {
-                word: transformed(operator, one.word, picture.things),
-                end: one.end,
-            })
-        }
-        ExpressionHead::Binary(operator) => {
-            let both = pair_values(bytes, at + 1, picture, spoken)?;
-            Some(Value {
-                word: combined(operator, both.one, both.other, picture.things),
-                end: both.end,
-            })
-        }
     }
-}
 
-#[cycle(values)]
-fn pair_values(bytes: &[u8], at: usize, picture: &Packed, spoken: Environment) -> Option<Values>
-    requires { (FitsP picture.now) × (Sees picture.now.things spoken) }
-    ensures { ValuesSay picture.now spoken bytes.now at result }
-{
-    let one = expression_value(bytes, at, picture, spoken)?;
-    let other = expression_value(bytes, one.end, picture, spoken)?;
-    Some(Values {
-        one: one.word,
-        other: other.word,
-        end: other.end,
-    })
-}
+    // The relations of two expressions, one after the other.
+    #[cycle(values)]
+    fn pair(&self, at: usize) -> Option<Written<(u64, u64)>>
+        ensures { ValuesSay self.now.picture.now self.now.spoken self.now.bytes.now at result }
+    {
+        let one = self.expression(at)?;
+        let other = self.expression(one.end)?;
+        Some(Written {
+            value: (one.value, other.value),
+            end: other.end,
+        })
+    }
 
-#[cycle(truths)]
-fn sentence_truth(bytes: &[u8], at: usize, picture: &Packed, spoken: Environment) -> Option<Truth>
-    requires { (FitsP picture.now) × (Sees picture.now.things spoken) }
-    ensures { TruthSays picture.now spoken bytes.now at result }
-{
-    let head = sentence_head(bytes, at)?;
-    match head {
-        SentenceHead::Within => {
-            let both = pair_values(bytes, at + 1, picture, spoken)?;
-            Some(Truth {
-                holds: within(both.one, both.other, picture.things),
-                end: both.end,
-            })
-        }
-        SentenceHead::Nonempty => {
-            let value = expression_value(bytes, at + 1, picture, spoken)?;
-            Some(Truth {
-                holds: nonempty(value.word, picture.things),
-                end: value.end,
-            })
-        }
-        SentenceHead::Not => {
-            let inner = sentence_truth(bytes, at + 1, picture, spoken)?;
-            Some(Truth {
-                holds: !inner.holds,
-                end: inner.end,
-            })
-        }
-        SentenceHead::Both => {
-            let one = sentence_truth(bytes, at + 1, picture, spoken)?;
-            let other = sentence_truth(bytes, one.end, picture, spoken)?;
-            Some(Truth {
-                holds: one.holds & other.holds,
-                end: other.end,
-            })
-        }
-        SentenceHead::ForEvery => {
-            if spoken.count < DEEPEST as usize {
+    // Whether a sentence holds.
+    #[cycle(truths)]
+    fn sentence(&self, at: usize) -> Option<Written<bool>>
+        ensures { TruthSays self.now.picture.now self.now.spoken self.now.bytes.now at result }
+    {
+        let size = self.picture.shape.size;
+        match sentence_head(self.bytes, at)? {
+            SentenceHead::Within => {
+                let both = self.pair(at + 1)?;
+                let (one, other) = both.value;
+                Some(Written {
+                    value: within(one, other, size),
+                    end: both.end,
+                })
+            }
+            SentenceHead::Nonempty => {
+                let relation = self.expression(at + 1)?;
+                Some(Written {
+                    value: nonempty(relation.value, size),
+                    end: relation.end,
+                })
+            }
+            SentenceHead::Not => {
+                let inner = self.sentence(at + 1)?;
+                Some(Written {
+                    value: !inner.value,
+                    end: inner.end,
+                })
+            }
+            SentenceHead::Both => {
+                let one = self.sentence(at + 1)?;
+                let other = self.sentence(one.end)?;
+                Some(Written {
+                    value: one.value & other.value,
+                    end: other.end,
+                })
+            }
+            SentenceHead::ForEvery => {
+                if self.spoken.count >= DEEPEST as usize {
+                    return None;
+                }
                 let scope = Scope {
-                    relations: picture.relations as u8,
-                    spoken: spoken.count as u8 + 1,
+                    relations: self.picture.shape.relations as u8,
+                    spoken: self.spoken.count as u8 + 1,
                 };
-                let body = sentence_extent(bytes, at + 1, scope)?;
-                let holds = for_every(bytes, at + 1, picture, spoken)?;
-                Some(Truth {
-                    holds,
+                let body = sentence_extent(self.bytes, at + 1, scope)?;
+                Some(Written {
+                    value: self.for_every(at + 1)?,
                     end: body.end,
                 })
-            } else {
-                None
             }
         }
     }
-}
 
-// Whether the sentence that is written at a place holds of every thing.
-#[cycle(truths)]
-fn for_every(bytes: &[u8], at: usize, picture: &Packed, spoken: Environment) -> Option<bool>
-    requires { (FitsP picture.now) × ((Sees picture.now.things spoken) × (spoken.count < 4)) }
-    ensures { EverySaysIf picture.now spoken bytes.now at result }
-{
-    for thing in 0..picture.things {
-        let inner = sentence_truth(bytes, at, picture, extended(spoken, thing, picture.things))?;
-        if !inner.holds {
-            return Some(false);
+    // Whether the sentence that is written at a place holds of every thing.
+    #[cycle(truths)]
+    fn for_every(&self, at: usize) -> Option<bool>
+        requires { self.now.spoken.count < 4 }
+        ensures { EverySaysIf self.now.picture.now self.now.spoken self.now.bytes.now at result }
+    {
+        for thing in 0..self.picture.shape.size.things {
+            let inner = Reader {
+                bytes: self.bytes,
+                picture: self.picture,
+                spoken: self.spoken.extended(thing),
+            };
+            let truth = inner.sentence(at)?;
+            if !truth.value {
+                return Some(false);
+            }
         }
+        Some(true)
     }
-    Some(true)
 }
 
 // Whether the picture is of the description; None where the bytes are no description about as many
 // relations.
 pub fn is_of(description: &[u8], picture: &Packed) -> Option<bool>
-    requires { FitsP picture.now }
     ensures { JudgedIf picture.now description.now result }
 {
     if description.len() > 512 {
         return None;
     }
     let relations = byte(description, 0)?;
-    if relations == 0 || relations as usize != picture.relations {
+    if relations == 0 || relations as usize != picture.shape.relations {
         return None;
     }
-    let truth = sentence_truth(description, 1, picture, silence())?;
-    if truth.end == description.len() {
-        Some(truth.holds)
-    } else {
-        None
-    }
+    let reader = Reader {
+        bytes: description,
+        picture,
+        spoken: Environment::silent(),
+    };
+    let truth = reader.sentence(1)?;
+    (truth.end == description.len()).then_some(truth.value)
 }

@@ -4,8 +4,11 @@
 
 // Pictures of at most eight things, a word for each relation; read from bytes and written to them.
 mod packing;
+// The things that 'for every' speaks of.
+mod speaking;
 // Expressions and sentences, evaluated where they are written.
 mod evaluating;
 
-pub use evaluating::{Environment, extended, is_of, silence};
-pub use packing::{Packed, Spot, pack, spot_at, unpack};
+pub use evaluating::is_of;
+pub use packing::Packed;
+pub use speaking::Environment;

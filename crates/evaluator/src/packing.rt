@@ -1,68 +1,55 @@
-// A picture packed into words: for each relation a word with a bit for each pair. Bits of the
-// picture are counted by relation, then by the first thing, then by the second.
-ghost use Rattle.std.specs.Prelude.{◌*◌, ◌<◌, ◌≤◌, length};
-ghost use Rattle.evaluator.specs.Packing.{FitsP, size, SpotAt, Unpacks, PackSays};
+// A picture packed into words: for each relation a word with a bit for each pair.
+ghost use Rattle.std.specs.Prelude.{◌≡◌, length};
 
-use matrices::{is_set, pairs, put};
+use descriptions::Shape;
+use matrices::{is_set, put};
 
 #[derive(Clone, Copy)]
 pub struct Packed {
     pub words: [u64; 8],
-    pub relations: usize,
-    pub things: usize,
+    pub shape: Shape,
+    pub ghost long: { length words ≡ 8 },
 }
 
-// Where a bit of a picture stands: in which relation's word, and at which place.
-#[derive(Clone, Copy)]
-pub struct Spot {
-    pub relation: usize,
-    pub place: usize,
-}
+impl Packed {
+    ghost use Rattle.std.specs.Prelude.{◌≤◌};
+    ghost use Rattle.evaluator.specs.Packing.{size, RelationAt, Unpacks, PackSays};
 
-pub fn spot_at(place: usize, relations: usize, things: usize) -> Spot
-    requires { (things ≤ 8) × (place < relations * (things * things)) }
-    ensures { SpotAt relations place things result }
-{
-    let pairs = pairs(things);
-    Spot {
-        relation: place / pairs,
-        place: place % pairs,
-    }
-}
-
-// Reads a picture from its bits, one a byte; None where they are not that.
-pub fn pack(bits: &[u8], relations: usize, things: usize) -> Option<Packed>
-    ensures { PackSays relations things bits.now result }
-{
-    if relations > 8 || things > 8 {
-        return None;
-    }
-    let count = relations * pairs(things);
-    if bits.len() != count {
-        return None;
-    }
-    let mut words = [0; 8];
-    for place in 0..count {
-        if bits[place] > 1 {
+    // Reads a picture from its bits, one a byte; None where they are not that.
+    pub fn pack(bits: &[u8], shape: Shape) -> Option<Packed>
+        ensures { PackSays shape bits.now result }
+    {
+        if bits.len() != shape.bits() {
             return None;
         }
-        let spot = spot_at(place, relations, things);
-        words[spot.relation] = put(words[spot.relation], spot.place, bits[place] == 1);
+        let mut words = [0; 8];
+        for (place, bit) in bits.iter().enumerate() {
+            if *bit > 1 {
+                return None;
+            }
+            let spot = shape.spot_at(place);
+            words[spot.relation] = put(words[spot.relation], spot.place, *bit == 1);
+        }
+        Some(Packed { words, shape })
     }
-    Some(Packed {
-        words,
-        relations,
-        things,
-    })
-}
 
-// Writes a picture's bits, one a byte, first into out, and leaves the rest as it was.
-pub fn unpack(picture: &Packed, out: &mut [u8])
-    requires { (FitsP picture.now) × (size picture.now ≤ length out.old) }
-    ensures { Unpacks picture.now out.old out.new }
-{
-    for place in 0..picture.relations * pairs(picture.things) {
-        let spot = spot_at(place, picture.relations, picture.things);
-        out[place] = is_set(picture.words[spot.relation], spot.place) as u8;
+    // Writes the picture's bits, one a byte, first into out, and leaves the rest as it was.
+    pub fn unpack(&self, out: &mut [u8])
+        requires { size self.now ≤ length out.old }
+        ensures { Unpacks self.now out.old out.new }
+    {
+        for (place, bit) in out[..self.shape.bits()].iter_mut().enumerate() {
+            let spot = self.shape.spot_at(place);
+            *bit = is_set(self.words[spot.relation], spot.place) as u8;
+        }
+    }
+
+    // The word of the relation with a number, if there is one.
+    pub fn relation(&self, number: u8) -> Option<u64>
+        ensures { RelationAt self.now number result }
+    {
+        self.words[..self.shape.relations]
+            .get(number as usize)
+            .copied()
     }
 }

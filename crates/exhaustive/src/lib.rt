@@ -2,80 +2,68 @@
 // any other engine answers is compared with it.
 #![tactic(auto)]
 
-ghost use Rattle.std.specs.Prelude.{◌≤◌};
-ghost use Rattle.evaluator.specs.Packing.{FitsP};
 ghost use Rattle.exhaustive.specs.Trying.{Blank, Advanced, Tells, FirstOf, FirstUpTo};
 
-use evaluator::{Packed, is_of, spot_at};
-use matrices::{flip, is_set, pairs};
+use descriptions::{Shape, Size};
+use evaluator::{Packed, is_of};
+use matrices::{flip, is_set};
 
 // The picture in which no relation holds of anything: the first in order.
-fn blank(relations: usize, things: usize) -> Packed
-    requires { (relations ≤ 8) × (things ≤ 8) }
-    ensures { Blank relations things result }
+fn blank(shape: Shape) -> Packed
+    ensures { Blank shape.relations shape.size.things result }
 {
     Packed {
         words: [0; 8],
-        relations,
-        things,
+        shape,
     }
 }
 
-// On to the next picture in order, by counting up: from the last bit on, ones become zeros until a
-// zero becomes a one. False where there is none after.
-fn advance(picture: &mut Packed) -> bool
-    requires { FitsP picture.old }
-    ensures { Advanced picture.old picture.new result }
+// The next picture in order, if there is one, by counting up: from the last bit on, ones become
+// zeros until a zero becomes a one.
+fn next_after(picture: &Packed) -> Option<Packed>
+    ensures { Advanced picture.now result }
 {
-    let relations = picture.relations;
-    let things = picture.things;
-    for place in (0..relations * pairs(things)).rev() {
-        let spot = spot_at(place, relations, things);
-        let word = picture.words[spot.relation];
-        picture.words[spot.relation] = flip(word, spot.place);
+    let mut words = picture.words;
+    for place in (0..picture.shape.bits()).rev() {
+        let spot = picture.shape.spot_at(place);
+        let word = words[spot.relation];
+        words[spot.relation] = flip(word, spot.place);
         if !is_set(word, spot.place) {
-            return true;
+            return Some(Packed {
+                words,
+                shape: picture.shape,
+            });
         }
     }
-    false
+    None
 }
 
 // Whether the picture is of the description.
 fn tells(description: &[u8], picture: &Packed) -> bool
-    requires { FitsP picture.now }
     ensures { Tells description.now picture.now result }
 {
-    match is_of(description, picture) {
-        Some(holds) => holds,
-        None => false,
-    }
+    is_of(description, picture).unwrap_or(false)
 }
 
 // The first picture of so many things, if there is one.
-pub fn first_of_size(description: &[u8], relations: usize, things: usize) -> Option<Packed>
-    requires { (relations ≤ 8) × (things ≤ 8) }
-    ensures { FirstOf description.now relations things result }
+pub fn first_of_size(description: &[u8], shape: Shape) -> Option<Packed>
+    ensures { FirstOf description.now shape.relations shape.size.things result }
 {
-    let mut candidate = blank(relations, things);
+    let mut candidate = blank(shape);
     loop {
         if tells(description, &candidate) {
             break Some(candidate);
         }
-        if !advance(&mut candidate) {
-            break None;
-        }
+        candidate = next_after(&candidate)?;
     }
 }
 
-// The first picture of at most so many things, from none on, if there is one.
-pub fn first_up_to(description: &[u8], relations: usize, most: usize) -> Option<Packed>
-    requires { (relations ≤ 8) × (most ≤ 8) }
-    ensures { FirstUpTo description.now relations most result }
+// The first picture of at most as many things as the shape has, from none on, if there is one.
+pub fn first_up_to(description: &[u8], most: Shape) -> Option<Packed>
+    ensures { FirstUpTo description.now most.relations most.size.things result }
 {
-    for things in 0..most + 1 {
-        if let Some(picture) = first_of_size(description, relations, things) {
-            return Some(picture);
-        }
-    }
-    None
+    (0..most.size.things + 1).find_map(|things| {
+        let shape = Shape::new(most.relations, things)?;
+        first_of_size(description, shape)
+    })
 }

@@ -2,6 +2,7 @@
 use Rattle.std.proofs.Common.{◌≡◌, ℕ, zero, suc, ◌+◌, ◌-◌, ◌*◌, ◌<◌, ◌≤◌, Bool, true, false, cond, not, ◌&&◌, ◌||◌, ◌∷◌, map, length, sym, refl, ap, ◌∙◌, inl, inr, add-one, arith}
 use Rattle.std.specs.List.{range_with_len}
 use Rattle.std.proofs.lemmas.List.FromFn.{fill_by_all}
+use Rattle.std.proofs.Math.Bool.{and-true, and_assoc}
 use Rattle.std.proofs.lemmas.Bool.{true≢false, false≢true, ltb-false, cases_order, and_parts}
 use Rattle.descriptions.specs.Pictures.{Picture}
 use Rattle.firsts.specs.Orders.{before}
@@ -13,14 +14,6 @@ use Rattle.firsts.proofs.Places.{source_twice, source_below}
 abbrev steps : Bool → (ℕ → Bool) → (ℕ → Bool) → (ℕ → Bool) → ℕ → ℕ → Bool
 steps g x y look k zero = true
 steps g x y look k (suc n) = cond (look k) ((g || (not (x k) || y k)) && steps (g || (not (x k) && y k)) x y look (k + 1) n) (steps g x y look (k + 1) n)
-
-and_true : (b : Bool) → (b && true) ≡ b
-and_true true = refl
-and_true false = refl
-
-and_joins : (a b c : Bool) → (a && b) && c ≡ a && (b && c)
-and_joins true b c = refl
-and_joins false b c = refl
 
 module _ (x y : ℕ → Bool) where
   steps_smaller : (look : ℕ → Bool) (k n : ℕ) → steps true x y look k n ≡ true
@@ -71,11 +64,11 @@ module _ (x y : ℕ → Bool) where
   steps_order k (suc n) = order_step (x k) (y k) (map x (range_with_len (k + 1) n)) (map y (range_with_len (k + 1) n)) (λ g. steps g x y everywhere (k + 1) n) (steps_smaller everywhere (k + 1) n) (steps_order (k + 1) n)
 
   steps_clauses : (look : ℕ → Bool) (k n : ℕ) → (clauses x y look k && steps (smaller x y look k) x y look k n) ≡ clauses x y look (k + n)
-  steps_clauses look k zero = and_true (clauses x y look k) ∙ ap (clauses x y look) (omega arith)
+  steps_clauses look k zero = and-true (clauses x y look k) ∙ ap (clauses x y look) (omega arith)
   steps_clauses look k (suc n) = go (look k) refl (rw add-one at (steps_clauses look (k + 1) n)) ∙ ap (clauses x y look) (omega arith)
     where
       go : (b : Bool) → look k ≡ b → (clauses x y look (suc k) && steps (smaller x y look (suc k)) x y look (suc k) n) ≡ clauses x y look (suc k + n) → (clauses x y look k && cond b ((smaller x y look k || (not (x k) || y k)) && steps (smaller x y look k || (not (x k) && y k)) x y look (k + 1) n) (steps (smaller x y look k) x y look (k + 1) n)) ≡ clauses x y look (suc k + n)
-      go true e ih = rw add-one (sym (and_joins (clauses x y look k) (smaller x y look k || (not (x k) || y k)) _) ∙ rw e at ih)
+      go true e ih = rw add-one (sym (and_assoc (clauses x y look k) (smaller x y look k || (not (x k) || y k)) _) ∙ rw e at ih)
       go false e ih = rw add-one (rw e at ih)
 
   clauses_steps : (look : ℕ → Bool) (n : ℕ) → clauses x y look n ≡ steps false x y look 0 n

@@ -7,44 +7,32 @@ ghost use Rattle.firsts.specs.Leaders.{LeadersKeep};
 ghost use Rattle.firsts.specs.Chains.{ChainSays, ChainShort};
 
 // Theorem: the order of pictures is decided.
-pub fn order_decided() -> u8
+pub fn order_decided()
     ensures { OrderDecided }
-{
-    0
-}
+{}
 
 // Theorem: where some picture has a property, one is the first.
-pub fn first_there() -> u8
+pub fn first_there()
     ensures { FirstThere }
-{
-    0
-}
+{}
 
 // Theorem: what leaves pictures out, and not the first, has the same first.
-pub fn sieve_keeps() -> u8
+pub fn sieve_keeps()
     ensures { SieveKeeps }
-{
-    0
-}
+{}
 
 // Theorem: a picture that a transposition of things would bring forward may be left out, for one before it with things
 // changed about is of the same description; and the first is never left out.
-pub fn leaders_keep() -> u8
+pub fn leaders_keep()
     ensures { LeadersKeep }
-{
-    0
-}
+{}
 
 // Theorem: a chain of clauses along the places whose bits change says that a picture leads.
-pub fn chain_says() -> u8
+pub fn chain_says()
     ensures { ChainSays }
-{
-    0
-}
+{}
 
 // Theorem: the chain has few links.
-pub fn chain_short() -> u8
+pub fn chain_short()
     ensures { ChainShort }
-{
-    0
-}
+{}

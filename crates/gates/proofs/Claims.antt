@@ -1,10 +1,11 @@
 -- Claims that are added.
-use Rattle.std.proofs.Common.{◌≡◌, ℕ, ◌+◌, ◌*◌, ◌<◌, ◌≤◌, true, List, length, get_or, sym, refl, ◌∙◌, subst, inl, inr, arith, below_more}
+use Rattle.std.proofs.Common.{◌≡◌, ℕ, ◌+◌, ◌*◌, ◌<◌, true, List, get_or, sym, refl, ◌∙◌, subst, inl, inr, arith, below_more}
 use Rattle.std.proofs.lemmas.Bool.{or_cases, or_left}
 use Rattle.clauses.specs.Formulas.{Assignment, value}
 use Rattle.gates.specs.declared.circuit.Circuit.{Circuit}
-use Rattle.gates.specs.Circuits.{either, output, claimed, Meets, Sound, GoesC, MeetsC, GrewC, Claims}
-use Rattle.gates.proofs.Triples.{added, added_size, added_kept, all_low, at_p, at_x, at_y}
+use Rattle.gates.specs.Words.{either, output, claimed, Meets}
+use Rattle.gates.specs.Circuits.{GoesC, MeetsC, GrewC, Claims}
+use Rattle.gates.proofs.Triples.{Put}
 
 claimed_kept : (t t' : List ℕ) (k : ℕ) (α : Assignment) → ((i : ℕ) → i < 3 * k + 3 → get_or t' i 0 ≡ get_or t i 0) → claimed t' k α ≡ claimed t k α
 unfolding claimed
@@ -14,26 +15,19 @@ claimed_kept t t' k α h =
     let c = h (3 * k + 2) (omega arith) in
     rw (a, b, c) refl
 
-module _ (b : ℕ) (g : List ℕ) (n : ℕ) (t : List ℕ) (c p x y : ℕ) (fits : 3 * c + 3 ≤ length t) where
-  new_claim : (α : Assignment) → claimed (added t c p x y fits) c α ≡ either α p x y
+module _ (t : List ℕ) (c p x y : ℕ) (t' : List ℕ) (w : Put t c p x y t') where
+  new_claim : (α : Assignment) → claimed t' c α ≡ either α p x y
   unfolding claimed
-  new_claim α =
-      let e = at_p t c p x y fits in let e' = at_x t c p x y fits in let e'' = at_y t c p x y fits in
-      rw (e, e', e'') refl
+  new_claim α = let e = w.at_p in let e' = w.at_x in let e'' = w.at_y in rw (e, e', e'') refl
 
-  old_claim : (α : Assignment) (k : ℕ) → k < c → claimed (added t c p x y fits) k α ≡ claimed t k α
-  old_claim α k h = claimed_kept t (added t c p x y fits) k α (λ i l. added_kept t c p x y fits i (omega arith))
+  old_claim : (α : Assignment) (k : ℕ) → k < c → claimed t' k α ≡ claimed t k α
+  old_claim α k h = claimed_kept t t' k α (λ i l. w.kept i (omega arith))
 
-  pub meets_more : (α : Assignment) → Meets t c α → either α p x y ≡ true → Meets (added t c p x y fits) (c + 1) α
+  pub meets_more : (α : Assignment) → Meets t c α → either α p x y ≡ true → Meets t' (c + 1) α
   meets_more α m e = below_more _ _ (λ k h. old_claim α k h ∙ m k h) (new_claim α ∙ e)
 
-  pub meets_fewer : (α : Assignment) → Meets (added t c p x y fits) (c + 1) α → Meets t c α × (either α p x y ≡ true)
+  pub meets_fewer : (α : Assignment) → Meets t' (c + 1) α → Meets t c α × (either α p x y ≡ true)
   meets_fewer α m = ((λ k h. sym (old_claim α k h) ∙ m k (omega arith)), sym (new_claim α) ∙ m c (omega arith))
-
-  pub claim_sound : Sound b g n t c → p < 2 * (b + n) → x < 2 * (b + n) → y < 2 * (b + n) → Sound b g n (added t c p x y fits) (c + 1)
-  claim_sound s hp hx hy =
-      let size = added_size t c p x y fits in
-      record { room = s.room; small = s.small; some = s.some; before = s.before; claims_room = omega arith; claims_known = all_low t c p x y fits (2 * (b + n)) s.claims_known hp hx hy }
 
 -- a claim of one literal
 pub same_three : (α : Assignment) (l : ℕ) → either α l l l ≡ true → value α l ≡ true

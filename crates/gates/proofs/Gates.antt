@@ -1,11 +1,11 @@
 -- Gates that are added, and gates that there are.
-use Rattle.std.proofs.Common.{◌≡◌, ℕ, ◌+◌, ◌*◌, ◌/◌, ◌^◌, ◌<◌, ◌≤◌, Bool, ◌⊎◌, List, length, get_or, sym, refl, ◌∙◌, subst, inl, inr, arith}
-use Rattle.std.proofs.lemmas.Bool.{cases_lt}
+use Rattle.std.proofs.Common.{◌≡◌, ℕ, ◌+◌, ◌*◌, ◌<◌, Bool, List, get_or, refl, ◌∙◌, subst, add-zero, arith}
 use Rattle.clauses.specs.Formulas.{Assignment}
 use Rattle.gates.specs.declared.folding.Inputs.{Inputs}
-use Rattle.gates.specs.Circuits.{mix, output, Goes, Sound, Grows, Adds, Gives, Reordered, Folded, Stands}
+use Rattle.gates.specs.Words.{mix, output, Goes, Grows, Adds, Gives}
+use Rattle.gates.specs.Circuits.{Reordered, Stands}
 use Rattle.gates.proofs.Literals.{value_even}
-use Rattle.gates.proofs.Triples.{added, added_size, added_kept, added_low, at_p, at_x, at_y}
+use Rattle.gates.proofs.Triples.{Put}
 
 -- what goes with more gates goes with fewer
 output_kept : (g g' : List ℕ) (k : ℕ) (α : Assignment) → ((i : ℕ) → i < 3 * k + 3 → get_or g' i 0 ≡ get_or g i 0) → output g' k α ≡ output g k α
@@ -29,12 +29,8 @@ grows_not = record { same = refl; more = omega arith; size = refl; kept = λ i h
 pub grows_on : {b : ℕ} {g : List ℕ} {n : ℕ} {t : List ℕ} {c : ℕ} {b' : ℕ} {g' : List ℕ} {n' : ℕ} {t' : List ℕ} {c' : ℕ} {b'' : ℕ} {g'' : List ℕ} {n'' : ℕ} {t'' : List ℕ} {c'' : ℕ} → Grows b g n t c b' g' n' t' c' → Grows b' g' n' t' c' b'' g'' n'' t'' c'' → Grows b g n t c b'' g'' n'' t'' c''
 grows_on r s = record { same = s.same ∙ r.same; more = omega (arith, r.more, s.more); size = s.size ∙ r.size; kept = λ i h. s.kept i (omega (arith, r.more)) ∙ r.kept i h; claims = s.claims ∙ r.claims; claims_count = s.claims_count ∙ r.claims_count }
 
-pub adds_none : {b : ℕ} {g : List ℕ} {n : ℕ} {t : List ℕ} {c : ℕ} → Sound b g n t c → (most : ℕ) → Adds b g n t c b g n t c most
-adds_none s most = record { sound = s; grew = grows_not; few = omega arith }
-
--- a literal that there is, in place of the gate
-pub folded_gives : (b : ℕ) (g : List ℕ) (n p x y l : ℕ) → Folded p x y l → p < 2 * (b + n) → x < 2 * (b + n) → y < 2 * (b + n) → Gives b g n l (λ α. mix α p x y)
-folded_gives b g n p x y l f hp hx hy = record { low = f.low (2 * (b + n)) hp hx hy; is = λ α o. f.is α o.top }
+pub adds_none : {b : ℕ} {g : List ℕ} {n : ℕ} {t : List ℕ} {c : ℕ} → (most : ℕ) → Adds b g n t c b g n t c most
+adds_none most = record { grew = grows_not; few = omega arith }
 
 -- a gate that there is
 pub stands_gives : (b : ℕ) (g : List ℕ) (n p x y k : ℕ) → Stands g n p x y k → Gives b g n (2 * (b + k)) (λ α. mix α p x y)
@@ -48,28 +44,12 @@ pub reordered_gives : (b : ℕ) (g : List ℕ) (n p x y l : ℕ) (i : Inputs) �
 reordered_gives b g n p x y l i r o = record { low = o.low; is = λ α z. o.is α z ∙ r.is α z.top }
 
 -- one gate more
-module _ (b : ℕ) (g : List ℕ) (n : ℕ) (t : List ℕ) (c p x y : ℕ) (fits : 3 * n + 3 ≤ length g) where
-  pub added_grows : Grows b g n t c b (added g n p x y fits) (n + 1) t c
-  added_grows = record { same = refl; more = omega arith; size = added_size g n p x y fits; kept = added_kept g n p x y fits; claims = refl; claims_count = refl }
+pub put_gives : (b : ℕ) (g : List ℕ) (n p x y : ℕ) (g' : List ℕ) → Put g n p x y g' → Gives b g' (n + 1) (2 * (b + n)) (λ α. mix α p x y)
+put_gives b g n p x y g' w = stands_gives b g' (n + 1) p x y n (record { low = omega arith; at_p = w.at_p; at_x = w.at_x; at_y = w.at_y })
 
-  pub added_gives : Gives b (added g n p x y fits) (n + 1) (2 * (b + n)) (λ α. mix α p x y)
-  added_gives = stands_gives b (added g n p x y fits) (n + 1) p x y n (record { low = omega arith; at_p = at_p g n p x y fits; at_x = at_x g n p x y fits; at_y = at_y g n p x y fits })
+-- a gate looks only at what comes before it
+abbrev pub Before : ℕ → List ℕ → ℕ → Type 0
+Before base g n = (k j : ℕ) → k < n → j < 3 → get_or g (3 * k + j) 0 < 2 * (base + k)
 
-  pub added_sound : Sound b g n t c → p < 2 * (b + n) → x < 2 * (b + n) → y < 2 * (b + n) → Sound b (added g n p x y fits) (n + 1) t c
-  added_sound s hp hx hy =
-      let size = added_size g n p x y fits in
-      record {
-        room = omega arith;
-        small = subst (λ (z : ℕ). 2 * (b + z / 3 + 1) < 2 ^ 32) (sym size) s.small;
-        some = s.some;
-        before = λ k j h l. go k j h l (cases_lt k n);
-        claims_room = s.claims_room;
-        claims_known = λ i h. let q = s.claims_known i h in omega arith;
-      }
-    where
-      go : (k j : ℕ) → k < n + 1 → j < 3 → (k < n) ⊎ (n ≤ k) → get_or (added g n p x y fits) (3 * k + j) 0 < 2 * (b + k)
-      go k j h l (inl q) = subst (λ (z : ℕ). z < 2 * (b + k)) (sym (added_kept g n p x y fits (3 * k + j) (omega arith))) (s.before k j q l)
-      go k j h l (inr q) = let e : k ≡ n = omega arith in subst (λ (z : ℕ). get_or (added g n p x y fits) (3 * z + j) 0 < 2 * (b + z)) (sym e) (added_low g n p x y fits (2 * (b + n)) j l hp hx hy)
-
-  pub added_adds : Sound b g n t c → p < 2 * (b + n) → x < 2 * (b + n) → y < 2 * (b + n) → Adds b g n t c b (added g n p x y fits) (n + 1) t c 1
-  added_adds s hp hx hy = record { sound = added_sound s hp hx hy; grew = added_grows; few = omega arith }
+pub inputs_before : (base : ℕ) (g : List ℕ) (n k : ℕ) → Before base g n → k < n → (get_or g (3 * k) 0 < 2 * (base + k)) × ((get_or g (3 * k + 1) 0 < 2 * (base + k)) × (get_or g (3 * k + 2) 0 < 2 * (base + k)))
+inputs_before base g n k before h = (subst (λ (i : ℕ). get_or g i 0 < 2 * (base + k)) (add-zero (3 * k)) (before k 0 h (omega arith)), (before k 1 h (omega arith), before k 2 h (omega arith)))

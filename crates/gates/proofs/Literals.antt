@@ -2,7 +2,6 @@
 use Rattle.std.proofs.Common.{◌≡◌, ℕ, ◌+◌, ◌*◌, ◌/◌, ◌%◌, ◌<◌, Bool, true, false, not, ◌&&◌, ◌||◌, sym, refl, ap, ◌∙◌, arith}
 use Rattle.clauses.specs.Formulas.{Assignment, value, negation}
 use Rattle.clauses.proofs.Literals.{value_negation}
-use Rattle.gates.specs.declared.folding.Inputs.{Inputs}
 use Rattle.gates.specs.Circuits.{Reordered, Folded}
 
 pub value_even : (α : Assignment) (l x : ℕ) → l ≡ 2 * x → value α l ≡ α x
@@ -29,27 +28,18 @@ pub negation_low : (l b : ℕ) → l < 2 * b → negation l < 2 * b
 unfolding negation
 negation_low l b h = omega arith
 
--- the same gate written in another way
-and_comm : (a b : Bool) → (a && b) ≡ (b && a)
-and_comm true true = refl
-and_comm true false = refl
-and_comm false true = refl
-and_comm false false = refl
+pub negated_low : (l r b : ℕ) → r ≡ negation l → l < 2 * b → r < 2 * b
+negated_low l r b e h = let n = negation_low l b h in omega arith
 
+-- the same gate written in another way
 or_comm : (a b c : Bool) → b ≡ true → (c || (b && a)) ≡ (a || (b && c))
 or_comm true b true e = refl
 or_comm true b false e = ap (λ (z : Bool). z && true) e
 or_comm false b true e = sym (ap (λ (z : Bool). z && true) e)
 or_comm false b false e = refl
 
-pub reordered_not : (p x y : ℕ) → Reordered p x y (record { p = p; x = x; y = y })
-reordered_not p x y = record { low = λ b h k l. (h, k, l); is = λ α t. refl }
-
 pub reordered_or : (p x y : ℕ) → x ≡ 0 → Reordered p x y (record { p = y; x = x; y = p })
 reordered_or p x y e = record { low = λ b h k l. (l, k, h); is = λ α t. or_comm _ _ _ (ap (value α) e ∙ value_true α t) }
-
-pub reordered_and : (p x y : ℕ) (i : Inputs) → Reordered p y x i → Reordered p x y i
-reordered_and p x y i r = record { low = λ b h k l. r.low b h l k; is = λ α t. r.is α t ∙ ap (λ (z : Bool). value α p || z) (and_comm (value α y) (value α x)) }
 
 -- folding
 or_true : (a b : Bool) → a ≡ true → a ≡ (a || b)

@@ -1,8 +1,9 @@
 -- What each choice of the inputs extends to.
-use Rattle.std.proofs.Common.{◌≡◌, ℕ, zero, suc, ◌+◌, ◌*◌, ◌/◌, ◌<◌, ◌≤◌, true, cond, eqb, ◌⊎◌, List, get_or, sym, refl, ap, ◌∙◌, subst, inl, inr, add-zero, arith}
+use Rattle.std.proofs.Common.{◌≡◌, ℕ, zero, suc, ◌+◌, ◌*◌, ◌/◌, ◌<◌, ◌≤◌, true, cond, eqb, ◌⊎◌, List, get_or, sym, refl, ap, ◌∙◌, inl, inr, arith}
 use Rattle.std.proofs.lemmas.Bool.{cases_lt, eq-eqb, ne_eqb}
 use Rattle.clauses.specs.Formulas.{Assignment, value}
-use Rattle.gates.specs.Circuits.{output, Goes}
+use Rattle.gates.specs.Words.{output, Goes}
+use Rattle.gates.proofs.Gates.{Before, inputs_before}
 use Rattle.gates.specs.Theorems.{Extends, Determined}
 
 -- the inputs, and then gate by gate
@@ -14,19 +15,13 @@ value_alike : (α β : Assignment) (l : ℕ) → α (l / 2) ≡ β (l / 2) → v
 unfolding value
 value_alike α β l e = rw e refl
 
--- a gate looks only at variables before it
-abbrev Before : ℕ → List ℕ → ℕ → Type 0
-Before base g n = (k j : ℕ) → k < n → j < 3 → get_or g (3 * k + j) 0 < 2 * (base + k)
-
 output_alike : (base : ℕ) (g : List ℕ) (n k : ℕ) (α β : Assignment) → Before base g n → k < n → ((v : ℕ) → v < base + k → α v ≡ β v) → output g k α ≡ output g k β
 unfolding output
 output_alike base g n k α β before h e =
-    let b0 : get_or g (3 * k) 0 < 2 * (base + k) = subst (λ (i : ℕ). get_or g i 0 < 2 * (base + k)) (add-zero (3 * k)) (before k 0 h (omega arith)) in
-    let b1 = before k 1 h (omega arith) in
-    let b2 = before k 2 h (omega arith) in
-    let p = value_alike α β (get_or g (3 * k) 0) (e _ (omega (arith, b0))) in
-    let x = value_alike α β (get_or g (3 * k + 1) 0) (e _ (omega (arith, b1))) in
-    let y = value_alike α β (get_or g (3 * k + 2) 0) (e _ (omega (arith, b2))) in
+    let b = inputs_before base g n k before h in
+    let p = value_alike α β (get_or g (3 * k) 0) (e _ (omega (arith, b.0))) in
+    let x = value_alike α β (get_or g (3 * k + 1) 0) (e _ (omega (arith, b.1.0))) in
+    let y = value_alike α β (get_or g (3 * k + 2) 0) (e _ (omega (arith, b.1.1))) in
     rw (p, x, y) refl
 
 module _ (base : ℕ) (g : List ℕ) where
@@ -68,7 +63,7 @@ module _ (base : ℕ) (g : List ℕ) where
           ap α q ∙ o.gates n (omega arith) ∙ output_alike base g (suc n) n α β before (omega arith) ih ∙ sym (p.gates n (omega arith)) ∙ ap β (sym q)
 
 pub extends : Extends
-extends c α s t = (run c.base c.words.now c.count α, run_goes c.base c.words.now c.count α s.some s.before t, run_inputs c.base c.words.now c.count α)
+extends c α t = (run c.base c.words.now c.count α, run_goes c.base c.words.now c.count α c.sound.some c.sound.before t, run_inputs c.base c.words.now c.count α)
 
 pub determined : Determined
-determined c α β s o p e v h = agree c.base c.words.now c.count α β s.before o p e v h
+determined c α β o p e v h = agree c.base c.words.now c.count α β c.sound.before o p e v h

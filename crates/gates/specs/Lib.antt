@@ -1,4 +1,6 @@
--- Circuits of one kind of gate, and the assignments that go with them.
+-- Gates and claims in words, and the assignments that go with them.
+pub mod Words
+-- Circuits of one kind of gate.
 pub mod Circuits
 -- Their clauses.
 pub mod Writing

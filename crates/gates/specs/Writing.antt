@@ -1,30 +1,41 @@
 -- The clauses of a circuit.
-use Rattle.std.specs.Prelude.{◌≡◌, ℕ, ◌+◌, ◌*◌, ◌^◌, ◌<◌, ◌≤◌, Bool, true, false, List, length}
-use Rattle.clauses.specs.declared.store.Store.{Store}
-use Rattle.clauses.specs.Formulas.{Assignment, Models}
-use Rattle.clauses.specs.Stores.{formula_of, StoredS}
+use Rattle.std.specs.Prelude.{◌≡◌, ℕ, ◌+◌, ◌*◌, ◌^◌, ◌<◌, ◌≤◌, Bool, false, ◌||◌, List, [], ◌∷◌, length, Ok, Err, Result}
+use Rattle.clauses.specs.declared.store.Unfit.{Unfit}
+use Rattle.clauses.specs.declared.store.Unfit.TheVariants as unfit
+use Rattle.clauses.specs.Formulas.{Assignment, value, Models}
+use Rattle.clauses.specs.Views.{StoreView}
+use Rattle.clauses.specs.Stores.{SameMemory}
 use Rattle.gates.specs.declared.circuit.Circuit.{Circuit}
-use Rattle.gates.specs.Circuits.{output, GoesC, MeetsC}
+use Rattle.gates.specs.Words.{output}
+use Rattle.gates.specs.Circuits.{GoesC, MeetsC}
+
+-- one of a clause's literals is true
+abbrev pub satisfied : Assignment → List ℕ → Bool
+satisfied α [] = false
+satisfied α (l ∷ c) = value α l || satisfied α c
 
 -- a store has so many clauses and literals more, which say Q
-pub record Writes (v : ℕ) (s : Store) (clauses literals : ℕ) (Q : Assignment → Type 0) (t : Store) : Type 0 where
-  pub stored : StoredS v t
-  pub spans_size : length t.spans.now ≡ length s.spans.now
-  pub words_size : length t.words.now ≡ length s.words.now
-  pub count : t.count ≡ s.count + clauses
+pub record Writes (s : StoreView) (clauses literals : ℕ) (Q : Assignment → Type 0) (t : StoreView) : Type 0 where
+  pub memory : SameMemory s t
+  pub count : length t.formula ≡ length s.formula + clauses
   pub used : t.used ≡ s.used + literals
-  pub says : (α : Assignment) → Models (formula_of t) α → Models (formula_of s) α × Q α
-  pub means : (α : Assignment) → Models (formula_of s) α → Q α → Models (formula_of t) α
+  pub says : (α : Assignment) → Models t.formula α → Models s.formula α × Q α
+  pub means : (α : Assignment) → Models s.formula α → Q α → Models t.formula α
 
 -- there is room for so many
-pub record Room (s : Store) (clauses literals : ℕ) : Type 0 where
-  pub spans : 2 * (s.count + clauses) ≤ length s.spans.now
-  pub words : s.used + literals ≤ length s.words.now
+pub record Room (s : StoreView) (clauses literals : ℕ) : Type 0 where
+  pub spans : 2 * (length s.formula + clauses) ≤ s.spans_size
+  pub words : s.used + literals ≤ s.words_size
   pub small : s.used + literals < 2 ^ 32
 
-abbrev pub WritesIf : ℕ → Store → ℕ → ℕ → (Assignment → Type 0) → Store → Bool → Type 0
-WritesIf v s clauses literals Q t true = Writes v s clauses literals Q t
-WritesIf v s clauses literals Q t false = Room s clauses literals → ⊥
+-- refused only for want of room for all; the store may have some of them
+abbrev pub Refused : StoreView → ℕ → ℕ → Unfit → Type 0
+Refused s clauses literals unfit.Literal = ⊥
+Refused s clauses literals unfit.Room = Room s clauses literals → ⊥
+
+abbrev pub WritesIf : StoreView → ℕ → ℕ → (Assignment → Type 0) → StoreView → Result (Unit {0}) Unfit → Type 0
+WritesIf s clauses literals Q t (Ok _) = Writes s clauses literals Q t
+WritesIf s clauses literals Q t (Err e) = Refused s clauses literals e
 
 -- the first n gates have their values
 abbrev pub Valued : ℕ → List ℕ → ℕ → Assignment → Type 0
@@ -38,15 +49,13 @@ abbrev pub literals_of : Circuit → ℕ
 literals_of c = 1 + 11 * c.count + 3 * c.claimed
 
 -- the models of what was written are the assignments that go with the gates and meet the claims
-pub record Written (v : ℕ) (c : Circuit) (t : Store) : Type 0 where
-  pub stored : StoredS v t
-  pub count : t.count ≡ clauses_of c
+pub record Written (c : Circuit) (t : StoreView) : Type 0 where
+  pub count : length t.formula ≡ clauses_of c
   pub used : t.used ≡ literals_of c
-  pub goes : (α : Assignment) → Models (formula_of t) α → GoesC c α
-  pub meets : (α : Assignment) → Models (formula_of t) α → MeetsC c α
-  pub models : (α : Assignment) → GoesC c α → MeetsC c α → Models (formula_of t) α
+  pub goes : (α : Assignment) → Models t.formula α → GoesC c α
+  pub meets : (α : Assignment) → Models t.formula α → MeetsC c α
+  pub models : (α : Assignment) → GoesC c α → MeetsC c α → Models t.formula α
 
--- refused only for want of room; the store then has some of the clauses
-abbrev pub WrittenIf : ℕ → Circuit → Store → Store → Bool → Type 0
-WrittenIf v c s t true = Written v c t
-WrittenIf v c s t false = Room s (clauses_of c) (literals_of c) → ⊥
+abbrev pub WrittenIf : Circuit → StoreView → StoreView → Result (Unit {0}) Unfit → Type 0
+WrittenIf c s t (Ok _) = SameMemory s t × Written c t
+WrittenIf c s t (Err e) = Refused s (clauses_of c) (literals_of c) e

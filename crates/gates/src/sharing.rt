@@ -1,9 +1,10 @@
-// A table of gates by their inputs, to find again a gate that there is. Its words need not be cleared
+// The table of gates by their inputs, to find again a gate that there is. Its words need not be cleared
 // and are never trusted: an entry is a gate's number plus one, and counts only if that gate has the
 // inputs looked for. So nothing has to hold of the table, and a table of no words shares nothing.
-ghost use Rattle.std.specs.Prelude.{◌≡◌, ◌*◌, ◌^◌, ◌<◌, ◌≤◌, true, length};
-ghost use Rattle.gates.specs.Circuits.{Stands, Found};
+ghost use Rattle.std.specs.Prelude.{◌^◌, ◌<◌, length};
+ghost use Rattle.gates.specs.Circuits.{Found};
 
+use crate::circuit::Circuit;
 use crate::folding::Inputs;
 
 // How many entries are looked at for a gate.
@@ -27,32 +28,25 @@ fn hash(inputs: Inputs) -> usize
     (mixed / 0x10_0000) as usize
 }
 
-fn has_inputs(words: &[u32], count: usize, gate: usize, inputs: Inputs) -> bool
-    requires { (3 * count ≤ length words.now) × (gate < count) }
-    ensures { result ≡ true → Stands words.now count inputs.p inputs.x inputs.y gate }
-{
-    let at = 3 * gate;
-    words[at] == inputs.p && words[at + 1] == inputs.x && words[at + 2] == inputs.y
-}
-
-pub fn find(words: &[u32], table: &[u32], count: usize, inputs: Inputs) -> Place
-    requires { 3 * count ≤ length words.now }
-    ensures { Found words.now count (length table.now) inputs result }
-{
-    let entries = table.len();
-    if entries == 0 {
-        return Place::Nowhere;
-    }
-    let first = hash(inputs);
-    for step in 0..PROBES {
-        let at = (first + step) % entries;
-        let entry = table[at] as usize;
-        if entry == 0 || entry > count {
-            return Place::Entry(at);
+impl Circuit<'_> {
+    pub(crate) fn find(&self, inputs: Inputs) -> Place
+        ensures { Found self.now.words.now self.now.count (length self.now.table.now) inputs result }
+    {
+        let entries = self.table.len();
+        if entries == 0 {
+            return Place::Nowhere;
         }
-        if has_inputs(words, count, entry - 1, inputs) {
-            return Place::Gate(entry - 1);
+        let first = hash(inputs);
+        for step in 0..PROBES {
+            let at = (first + step) % entries;
+            let entry = self.table[at] as usize;
+            if entry == 0 || entry > self.count {
+                return Place::Entry(at);
+            }
+            if Inputs::at(self.words, entry - 1) == inputs {
+                return Place::Gate(entry - 1);
+            }
         }
+        Place::Entry(first % entries)
     }
-    Place::Entry(first % entries)
 }

@@ -28,7 +28,7 @@ module _ (bytes : List ℕ) (d : Description) (m gates claims : ℕ) (Pair : ℕ
   leader_drawn : (p : Picture) → Sized d m p → of d m p ≡ true → Leader d.relations m p → Drawn t p
   leader_drawn p l is leader =
       let b = leads.extends.base in
-      let x = drawn_by_some t p leads.extends.sound (omega arith) in
+      let x = drawn_by_some t p (omega arith) in
       let α = x.assignment in
       record {
         assignment = α;

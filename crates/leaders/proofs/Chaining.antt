@@ -4,7 +4,7 @@ use Rattle.std.proofs.lemmas.Bool.{true≢false, lt-ltb, le-ltb, and_parts, and_
 use Rattle.descriptions.specs.Pictures.{Picture}
 use Rattle.clauses.specs.Formulas.{Assignment, value}
 use Rattle.gates.specs.declared.circuit.Circuit.{Circuit}
-use Rattle.gates.specs.Circuits.{GoesC, MeetsC, SoundC, GivesC}
+use Rattle.gates.specs.Circuits.{GoesC, MeetsC, GivesC}
 use Rattle.gates.proofs.Literals.{value_even, value_false}
 use Rattle.firsts.specs.Leaders.{source, swap, led}
 use Rattle.firsts.specs.Chains.{smaller, clauses, other, looks, links}
@@ -33,11 +33,11 @@ pub record Chained (s t : Circuit) (m a b k g : ℕ) : Type 0 where
   pub meets : (α : Assignment) → GoesC t α → MeetsC s α → clauses_at m a b k α ≡ true → MeetsC t α
   pub passed : (α : Assignment) → GoesC t α → MeetsC t α → clauses_at m a b k α ≡ true
 
-pub chained_none : (s : Circuit) (m a b : ℕ) → SoundC s → Chained s s m a b 0 1
-chained_none s m a b sound =
-    let h = sound.some in
+pub chained_none : (s : Circuit) (m a b : ℕ) → Chained s s m a b 0 1
+chained_none s m a b =
+    let h = s.sound.some in
     record {
-      extends = extends_none s sound;
+      extends = extends_none s;
       few = omega arith;
       claims_few = omega arith;
       gives = record { low = omega arith; is = λ α goes. value_false α goes.top };
@@ -47,7 +47,7 @@ chained_none s m a b sound =
 
 -- literals fit 32 bits
 pub chained_small : (s t : Circuit) (m a b k g : ℕ) → Chained s t m a b k g → g < 2 ^ 32
-chained_small s t m a b k g c = let r = c.extends.sound.room in let h = c.extends.sound.small in let l = c.gives.low in omega arith
+chained_small s t m a b k g c = let r = t.sound.room in let h = t.sound.small in let l = c.gives.low in omega arith
 
 -- said of equal circuits and literals
 pub chained_is : (s t t' : Circuit) (m a b k g g' : ℕ) → t' ≡ t → g' ≡ g → Chained s t m a b k g → Chained s t' m a b k g' × (g' < 2 ^ 32)

@@ -4,7 +4,7 @@ use Rattle.std.proofs.lemmas.Bool.{cases_eq}
 use Rattle.descriptions.specs.Pictures.{Picture, relation_of}
 use Rattle.clauses.specs.Formulas.{Assignment}
 use Rattle.gates.specs.declared.circuit.Circuit.{Circuit}
-use Rattle.gates.specs.Circuits.{GoesC, SoundC}
+use Rattle.gates.specs.Circuits.{GoesC}
 use Rattle.gates.proofs.Runs.{extends}
 use Rattle.firsts.specs.Leaders.{bit_of, place}
 use Rattle.firsts.proofs.Places.{place_of, place_below, relation_at}
@@ -29,9 +29,9 @@ pub record Drawing (c : Circuit) (p : Picture) : Type 0 where
   pub goes : GoesC c assignment
   pub draws : Draws assignment p
 
-pub drawn_by_some : (c : Circuit) (p : Picture) → SoundC c → length p < c.base → Drawing c p
-drawn_by_some c p sound inside =
-    let x = extends c (drawing p) sound (drawing_top p) in
+pub drawn_by_some : (c : Circuit) (p : Picture) → length p < c.base → Drawing c p
+drawn_by_some c p inside =
+    let x = extends c (drawing p) (drawing_top p) in
     record { assignment = x.0; goes = x.1; draws = λ k h. x.2 (1 + k) (omega arith) ∙ drawing_bit p k }
 
 -- the same by relations and pairs of things

@@ -2,18 +2,18 @@
 use Rattle.std.proofs.Common.{◌≡◌, ℕ, Bool, List, length, get_or, sym, refl, ap, ◌∙◌, subst, arith}
 use Rattle.clauses.specs.Formulas.{Assignment}
 use Rattle.gates.specs.declared.circuit.Circuit.{Circuit}
-use Rattle.gates.specs.Circuits.{Meets, GoesC, MeetsC, SoundC, AddsC, GivesC, Claims}
+use Rattle.gates.specs.Words.{Meets}
+use Rattle.gates.specs.Circuits.{GoesC, MeetsC, AddsC, GivesC, Claims}
 use Rattle.gates.proofs.Gates.{goes_fewer}
 use Rattle.leaders.specs.Leading.{Extended}
 
-pub extends_none : (s : Circuit) → SoundC s → Extended s s
-extends_none s sound = record { sound = sound; base = refl; more = omega arith; size = refl; kept = λ i h. refl; claims_more = omega arith; claims_size = refl; met = λ α h. h }
+pub extends_none : (s : Circuit) → Extended s s
+extends_none s = record { base = refl; more = omega arith; size = refl; kept = λ i h. refl; claims_more = omega arith; claims_size = refl; met = λ α h. h }
 
 pub extends_on : (s t u : Circuit) → Extended s t → Extended t u → Extended s u
 extends_on s t u e f =
     let a = e.more in let b = f.more in let c = e.claims_more in let d = f.claims_more in
     record {
-      sound = f.sound;
       base = f.base ∙ e.base;
       more = omega arith;
       size = f.size ∙ e.size;
@@ -37,7 +37,6 @@ pub adds_extends : (s t : Circuit) (most : ℕ) → AddsC s t most → Extended 
 adds_extends s t most a =
     let b = a.grew.claims_count in
     record {
-      sound = a.sound;
       base = a.grew.same;
       more = a.grew.more;
       size = a.grew.size;
@@ -55,7 +54,6 @@ pub claims_extends : (s t : Circuit) (x y z : ℕ) → Claims s x y z t → Exte
 claims_extends s t x y z c =
     let b = c.count in let d = c.counts in
     record {
-      sound = c.sound;
       base = c.base;
       more = omega arith;
       size = ap length c.words;

@@ -3,7 +3,8 @@ use Rattle.std.proofs.Common.{◌≡◌, ℕ, Bool, not, ◌&&◌, ◌||◌, Som
 use Rattle.clauses.specs.Formulas.{Assignment, value, negation}
 use Rattle.clauses.proofs.Literals.{value_negation}
 use Rattle.gates.specs.declared.circuit.Circuit.{Circuit}
-use Rattle.gates.specs.Circuits.{mix, either, AddsC, GivesC, Came, Claims}
+use Rattle.gates.specs.Words.{mix, either}
+use Rattle.gates.specs.Circuits.{AddsC, GivesC, Came, Claims}
 use Rattle.leaders.specs.Leading.{passes, Linked, LinksIf}
 use Rattle.leaders.proofs.Extending.{extends_on, adds_extends, adds_meets, claims_extends}
 

@@ -3,7 +3,7 @@ use Rattle.std.specs.Prelude.{◌≡◌, ℕ, ◌+◌, ◌-◌, ◌*◌, ◌<◌
 use Rattle.descriptions.specs.Pictures.{Picture}
 use Rattle.clauses.specs.Formulas.{Assignment, value}
 use Rattle.gates.specs.declared.circuit.Circuit.{Circuit}
-use Rattle.gates.specs.Circuits.{GoesC, MeetsC, SoundC, GivesC}
+use Rattle.gates.specs.Circuits.{GoesC, MeetsC, GivesC}
 use Rattle.firsts.specs.Leaders.{bit_of, led, Leader}
 
 -- an assignment draws a picture: its bits are the variables from 1 on
@@ -12,7 +12,6 @@ Draws α p = (k : ℕ) → k < length p → α (1 + k) ≡ bit_of p k
 
 -- gates and claims are only added
 pub record Extended (s t : Circuit) : Type 0 where
-  pub sound : SoundC t
   pub base : t.base ≡ s.base
   pub more : s.count ≤ t.count
   pub size : length t.words.now ≡ length s.words.now
@@ -64,15 +63,12 @@ pub record Chains (s : Circuit) (n m a b : ℕ) (t : Circuit) (whole : Bool) : T
 abbrev pub Crowded : ℕ → ℕ → ℕ → ℕ → Circuit → Type 0
 Crowded n m gates claims t = (gates < t.count + 2 * (n * (m - 1))) ⊎ ((claims < t.claimed + 2 * (n * (m - 1))) ⊎ NoRoom t)
 
--- pairs of things that change places: one pair, neighbours, those before b that are not its neighbours, and each
+-- pairs of things that change places: one pair, those so far apart, and each
 abbrev pub OnePair : ℕ → ℕ → ℕ → ℕ → Type 0
 OnePair one other a b = (a ≡ one) × (b ≡ other)
 
-abbrev pub Adjacent : ℕ → ℕ → Type 0
-Adjacent a b = b ≡ a + 1
-
-abbrev pub Apart : ℕ → ℕ → ℕ → Type 0
-Apart other a b = (b ≡ other) × (a + 1 < b)
+abbrev pub Distant : ℕ → ℕ → ℕ → Type 0
+Distant distance a b = b ≡ a + distance
 
 abbrev pub Each : ℕ → ℕ → Type 0
 Each a b = Unit {0}

@@ -1,13 +1,14 @@
 -- A word filled place by place shows a relation.
-use Rattle.std.proofs.Common.{◌≡◌, ℕ, zero, suc, ◌+◌, ◌*◌, ◌/◌, ◌%◌, ◌<◌, ◌≤◌, Bool, true, false, not, ◌&&◌, ◌||◌, eqb, ltb, ◌⊎◌, sym, refl, ap, ◌∙◌, inl, inr, arith}
-use lib.Bits.{bit_and, bit_xor}
-use Rattle.std.proofs.lemmas.Nat.{mul-le, mul-add-lt, div-mul-add, mod-mul-add, div_below, mod_below}
-use Rattle.std.proofs.lemmas.Bool.{cases_order, lt-ltb, le-ltb, eq-eqb, ne_eqb}
-use Rattle.descriptions.specs.Pictures.{Relation, any, every}
-use Rattle.descriptions.proofs.Quantifiers.{not_any}
-use Rattle.matrices.specs.declared.Pair.{Pair}
-use Rattle.matrices.specs.Words.{bit, matrix, Shows, Upto, PairAt}
-use Rattle.matrices.proofs.Bits.{bit_zero, bit_but}
+use Rattle.std.proofs.Common.{◌≡◌, ℕ, ◌+◌, ◌*◌, ◌/◌, ◌%◌, ◌<◌, ◌≤◌, Bool, true, false, not, ◌&&◌, ◌||◌, eqb, ◌⊎◌, sym, refl, ap, subst, ◌∙◌, inl, inr, arith}
+use Rattle.std.proofs.Math.Bool.{or-false}
+use Rattle.std.proofs.lemmas.Nat.{mul-le, mul-add-lt, div-mul-add, mod-mul-add}
+use Rattle.std.proofs.lemmas.Bool.{eq-eqb, ne_eqb}
+use Rattle.descriptions.specs.Pictures.{any, every}
+use Rattle.descriptions.proofs.Quantifiers.{not_any, any_cong, below_suc}
+use Rattle.descriptions.specs.declared.shapes.Pair.{Pair}
+use Rattle.descriptions.specs.Shapes.{PairAt}
+use Rattle.matrices.specs.Words.{bit, matrix, Shows}
+use Rattle.matrices.proofs.Bits.{bit_zero}
 
 pub square : (m : ℕ) → m ≤ 8 → m * m ≤ 64
 square m h = mul-le m m 8 8 h h
@@ -15,47 +16,39 @@ square m h = mul-le m m 8 8 h h
 pub place_below : (m i j : ℕ) → i < m → j < m → i * m + j < m * m
 place_below m i j hi hj = mul-add-lt i m j m hi hj
 
-positive : (m k : ℕ) → k < m * m → 0 < m
-positive zero k h = absurd (omega arith)
-positive (suc m) k h = omega arith
+-- a word filled up to a place, where P says of each place which bit
+pub record Filled (at w : ℕ) (P : ℕ → Bool → Type 0) : Type 0 where
+  pub before : (k : ℕ) → k < at → P k (bit w k)
+  pub after : (k : ℕ) → at ≤ k → bit w k ≡ false
 
-pub pair_is : (place m : ℕ) → m ≤ 8 → place < m * m → PairAt place m (record { first = place / m; second = place % m })
-pair_is place m h l = record { first = refl; second = refl; first_below = div_below place m m (positive m place l) l; second_below = mod_below place m (positive m place l); low = let s = square m h in omega arith }
+pub filled_none : (P : ℕ → Bool → Type 0) → Filled 0 0 P
+filled_none P = record { before = λ k h. absurd (omega arith); after = λ k h. bit_zero k }
 
-pub upto_none : (f : ℕ → Bool) → Upto 0 0 f
-upto_none f k h = bit_zero k ∙ sym (ap (λ (b : Bool). b && f k) (le-ltb k 0 (omega arith)))
-
-or_false : (b : Bool) → (b || false) ≡ b
-or_false true = refl
-or_false false = refl
-
-step : (f : ℕ → Bool) (at k : ℕ) (old new : Bool) → old ≡ (ltb k at && f k) → new ≡ ((eqb k at && f at) || old) → (k ≡ at) ⊎ ((k < at) ⊎ (at < k)) → new ≡ (ltb k (at + 1) && f k)
-step f at k old new p q (inl h) = q ∙ rw (p, h, eq-eqb at at refl, le-ltb at at (omega arith), lt-ltb at (at + 1) (omega arith)) (or_false (f at))
-step f at k old new p q (inr (inl h)) = q ∙ rw (ne_eqb k at (omega arith)) (p ∙ rw (lt-ltb k at h, lt-ltb k (at + 1) (omega arith)) refl)
-step f at k old new p q (inr (inr h)) = q ∙ rw (ne_eqb k at (omega arith)) (p ∙ rw (le-ltb k at (omega arith), le-ltb k (at + 1) (omega arith)) refl)
-
-pub upto_more : (f : ℕ → Bool) (at w v : ℕ) (b : Bool) → Upto at w f → b ≡ f at → ((k : ℕ) → bit v k ≡ ((eqb k at && b) || bit w k)) → Upto (at + 1) v f
-upto_more f at w v b u t s k h = step f at k (bit w k) (bit v k) (u k h) (s k ∙ ap (λ (x : Bool). (eqb k at && x) || bit w k) t) (cases_order k at)
-
--- the relation's bit at a place
-abbrev pub placed : ℕ → Relation → ℕ → Bool
-placed m r k = r (k / m) (k % m)
+-- one place more
+pub filled_more : (at w v : ℕ) (b : Bool) (P : ℕ → Bool → Type 0) → Filled at w P → P at b → ((k : ℕ) → bit v k ≡ ((eqb k at && b) || bit w k)) → Filled (at + 1) v P
+filled_more at w v b P f p s = record { before = λ k h. go k (below_suc k at (omega arith)); after = λ k h. s k ∙ rw (ne_eqb k at (omega arith)) (f.after k (omega arith)) }
+  where
+    go : (k : ℕ) → (k < at) ⊎ (k ≡ at) → P k (bit v k)
+    go k (inl h) = subst (P k) (sym (s k ∙ rw (ne_eqb k at (omega arith)) refl)) (f.before k h)
+    go k (inr e) = subst (λ (x : ℕ). P x (bit v x)) (sym e) (subst (P at) (sym (s at ∙ rw (eq-eqb at at refl, f.after at (omega arith)) (or-false b))) p)
 
 -- at a pair that was worked out
-pub at_pair : (m : ℕ) (r : Relation) (place : ℕ) (p : Pair) → PairAt place m p → r p.first p.second ≡ placed m r place
-at_pair m r place p q = ap (λ (i : ℕ). r i p.second) q.first ∙ ap (λ (j : ℕ). r (place / m) j) q.second
+pub at_pair : (m place : ℕ) (p : Pair) (Q : ℕ → ℕ → Type 0) → PairAt place m p → Q p.first p.second → Q (place / m) (place % m)
+at_pair m place p Q q x = subst (λ (i : ℕ). Q i (place % m)) q.first (subst (λ (j : ℕ). Q p.first j) q.second x)
 
-pub upto_all : (r : Relation) (m w at : ℕ) → m ≤ 8 → m * m ≤ at → Upto at w (placed m r) → Shows m w r
-upto_all r m w at m8 le u i j hi hj =
-    let s = square m m8 in let l = place_below m i j hi hj in
-    u (i * m + j) (omega arith) ∙ rw (lt-ltb (i * m + j) at (omega arith), div-mul-add i m j hj, mod-mul-add i m j hj) refl
+-- a whole word
+pub filled_all : (m w at : ℕ) (Q : ℕ → ℕ → Bool → Type 0) → m * m ≤ at → Filled at w (λ k b. Q (k / m) (k % m) b) → (i j : ℕ) → i < m → j < m → Q i j (matrix m w i j)
+filled_all m w at Q le f i j hi hj =
+    let l = place_below m i j hi hj in
+    subst (λ (x : ℕ). Q x j (matrix m w i j)) (div-mul-add i m j hj) (subst (λ (y : ℕ). Q ((i * m + j) / m) y (matrix m w i j)) (mod-mul-add i m j hj) (f.before (i * m + j) (omega arith)))
 
 not_but : (a b : Bool) → (not a || b) ≡ not (a && not b)
 not_but true true = refl
 not_but true false = refl
 not_but false b = refl
 
-pub within_is : (m a b : ℕ) → not (any m (λ i. any m (λ j. matrix m (bit_and a (bit_xor a b)) i j))) ≡ every m (λ i. every m (λ j. not (matrix m a i j) || matrix m b i j))
-within_is m a b =
-    not_any m (λ i. every m (λ j. not (matrix m a i j) || matrix m b i j)) (λ i. any m (λ j. matrix m (bit_and a (bit_xor a b)) i j))
-    (λ i. sym (not_any m (λ j. not (matrix m a i j) || matrix m b i j) (λ j. matrix m (bit_and a (bit_xor a b)) i j) (λ j. not_but (matrix m a i j) (matrix m b i j) ∙ ap not (sym (bit_but a b (i * m + j))))))
+-- one relation is within the other where nothing is in the one and not in the other
+pub within_is : (m a b c : ℕ) → Shows m c (λ i j. matrix m a i j && not (matrix m b i j)) → not (any m (λ i. any m (λ j. matrix m c i j))) ≡ every m (λ i. every m (λ j. not (matrix m a i j) || matrix m b i j))
+within_is m a b c f =
+    ap not (any_cong m _ _ (λ i hi. any_cong m _ _ (λ j hj. f i j hi hj)))
+    ∙ not_any m (λ i. every m (λ j. not (matrix m a i j) || matrix m b i j)) _ (λ i. sym (not_any m (λ j. not (matrix m a i j) || matrix m b i j) _ (λ j. not_but (matrix m a i j) (matrix m b i j))))

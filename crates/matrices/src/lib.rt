@@ -2,38 +2,12 @@
 // operators of descriptions make of one or two of them.
 #![tactic(auto)]
 
-ghost use Rattle.std.specs.Prelude.{◌≡◌, ℕ, ◌*◌, ◌<◌, ◌≤◌, not, ◌&&◌, ◌||◌, if◌then◌else◌, ◌==◌, nat_eq};
+ghost use Rattle.std.specs.Prelude.{◌≡◌, ℕ, ◌<◌, not, ◌&&◌, ◌||◌, if◌then◌else◌, ◌==◌, nat_eq};
 ghost use Rattle.descriptions.specs.Pictures.{any, every, compose};
 ghost use Rattle.descriptions.specs.Meaning.{transform, combine};
-ghost use Rattle.matrices.specs.Words.{bit, matrix, Shows, PairAt};
+ghost use Rattle.matrices.specs.Words.{bit, matrix, Shows};
 
-use descriptions::{Binary, Unary};
-
-// A first and a second thing.
-#[derive(Clone, Copy)]
-pub struct Pair {
-    pub first: usize,
-    pub second: usize,
-}
-
-// How many pairs there are.
-pub fn pairs(things: usize) -> usize
-    requires { things ≤ 8 }
-    ensures { (result ≡ things * things) × (result ≤ 64) }
-{
-    things * things
-}
-
-// The pair at a place: they are counted by the first thing, then by the second.
-pub fn pair_at(place: usize, things: usize) -> Pair
-    requires { (things ≤ 8) × (place < things * things) }
-    ensures { PairAt place things result }
-{
-    Pair {
-        first: place / things,
-        second: place % things,
-    }
-}
+use descriptions::{Binary, Size, Unary};
 
 // Whether the bit at a place is 1.
 pub fn is_set(word: u64, place: usize) -> bool
@@ -60,126 +34,91 @@ pub fn flip(word: u64, place: usize) -> u64
 }
 
 // Whether one thing stands to another.
-pub fn has(word: u64, things: usize, first: usize, second: usize) -> bool
-    requires { (things ≤ 8) × ((first < things) × (second < things)) }
-    ensures { result ≡ matrix things word first second }
+pub fn has(word: u64, size: Size, first: usize, second: usize) -> bool
+    requires { (first < size.things) × (second < size.things) }
+    ensures { result ≡ matrix size.things word first second }
 {
-    is_set(word, first * things + second)
+    is_set(word, first * size.things + second)
+}
+
+// The word with the bits of the pairs that are wanted.
+fn word_of<F: Fn(usize, usize) -> bool>(size: Size, wanted: F) -> u64
+    requires { (i j : ℕ) → i < size.things → j < size.things → F.pre wanted i j }
+    ensures { (i j : ℕ) → i < size.things → j < size.things → F.post wanted i j (matrix size.things result i j) }
+{
+    let mut word = 0;
+    for place in 0..size.pairs() {
+        let pair = size.pair_at(place);
+        word = put(word, place, wanted(pair.first, pair.second));
+    }
+    word
 }
 
 // Whether some thing is reached from the first by one relation and leads to the second by the other.
-fn joins(one: u64, other: u64, things: usize, first: usize, second: usize) -> bool
-    requires { (things ≤ 8) × ((first < things) × (second < things)) }
-    ensures { result ≡ compose things (matrix things one) (matrix things other) first second }
+fn joins(one: u64, other: u64, size: Size, first: usize, second: usize) -> bool
+    requires { (first < size.things) × (second < size.things) }
+    ensures { result ≡ compose size.things (matrix size.things one) (matrix size.things other) first second }
 {
-    for between in 0..things {
-        if has(one, things, first, between) && has(other, things, between, second) {
-            return true;
-        }
-    }
-    false
+    (0..size.things).any(|between| has(one, size, first, between)
+        && has(other, size, between, second))
 }
 
 // Whether a thing stands to some thing.
-fn leads(word: u64, things: usize, first: usize) -> bool
-    requires { (things ≤ 8) × (first < things) }
-    ensures { result ≡ any things (λ k. matrix things word first k) }
+fn leads(word: u64, size: Size, first: usize) -> bool
+    requires { first < size.things }
+    ensures { result ≡ any size.things (λ k. matrix size.things word first k) }
 {
-    for second in 0..things {
-        if has(word, things, first, second) {
-            return true;
-        }
-    }
-    false
+    (0..size.things).any(|second| has(word, size, first, second))
 }
 
 // Every thing, to itself.
-pub fn identity(things: usize) -> u64
-    requires { things ≤ 8 }
-    ensures { Shows things result (λ i j. nat_eq i j) }
+pub fn identity(size: Size) -> u64
+    ensures { Shows size.things result (λ i j. nat_eq i j) }
 {
-    let mut word = 0;
-    for place in 0..pairs(things) {
-        let pair = pair_at(place, things);
-        word = put(word, place, pair.first == pair.second);
-    }
-    word
+    word_of(size, |first, second| first == second)
 }
 
 // One thing, to itself.
-pub fn single(thing: usize, things: usize) -> u64
-    requires { (things ≤ 8) × (thing < things) }
-    ensures { Shows things result (λ i j. (i == thing) && j == thing) }
+pub fn single(thing: usize, size: Size) -> u64
+    requires { thing < size.things }
+    ensures { Shows size.things result (λ i j. (i == thing) && j == thing) }
 {
-    let mut word = 0;
-    for place in 0..pairs(things) {
-        let pair = pair_at(place, things);
-        word = put(word, place, (pair.first == thing) & (pair.second == thing));
-    }
-    word
+    word_of(size, |first, second| first == thing && second == thing)
 }
 
 // One relation after the other.
-fn composition(one: u64, other: u64, things: usize) -> u64
-    requires { things ≤ 8 }
-    ensures { Shows things result (compose things (matrix things one) (matrix things other)) }
+fn composition(one: u64, other: u64, size: Size) -> u64
+    ensures { Shows size.things result (compose size.things (matrix size.things one) (matrix size.things other)) }
 {
-    let mut word = 0;
-    for place in 0..pairs(things) {
-        let pair = pair_at(place, things);
-        word = put(
-            word,
-            place,
-            joins(one, other, things, pair.first, pair.second),
-        );
-    }
-    word
+    word_of(size, |first, second| joins(one, other, size, first, second))
 }
 
 // Turned round.
-fn converse(one: u64, things: usize) -> u64
-    requires { things ≤ 8 }
-    ensures { Shows things result (transform Unary.Converse things (matrix things one)) }
+fn converse(one: u64, size: Size) -> u64
+    ensures { Shows size.things result (transform Unary.Converse size.things (matrix size.things one)) }
 {
-    let mut word = 0;
-    for place in 0..pairs(things) {
-        let pair = pair_at(place, things);
-        word = put(word, place, has(one, things, pair.second, pair.first));
-    }
-    word
+    word_of(size, |first, second| has(one, size, second, first))
 }
 
 // What stands first in a pair, to itself.
-fn domain(one: u64, things: usize) -> u64
-    requires { things ≤ 8 }
-    ensures { Shows things result (transform Unary.Domain things (matrix things one)) }
+fn domain(one: u64, size: Size) -> u64
+    ensures { Shows size.things result (transform Unary.Domain size.things (matrix size.things one)) }
 {
-    let mut word = 0;
-    for place in 0..pairs(things) {
-        let pair = pair_at(place, things);
-        word = put(
-            word,
-            place,
-            (pair.first == pair.second) & leads(one, things, pair.first),
-        );
-    }
-    word
+    word_of(
+        size,
+        |first, second| first == second && leads(one, size, first),
+    )
 }
 
 // Once or more often: one step more, again and again, until nothing is new.
-fn closure(one: u64, things: usize) -> u64
-    requires { things ≤ 8 }
-    ensures { Shows things result (transform Unary.Closure things (matrix things one)) }
+fn closure(one: u64, size: Size) -> u64
+    ensures { Shows size.things result (transform Unary.Closure size.things (matrix size.things one)) }
 {
     let mut word = one;
-    'steps: for step in 0..things {
-        let mut next = 0;
-        for place in 0..pairs(things) {
-            let pair = pair_at(place, things);
-            let reached = has(one, things, pair.first, pair.second)
-                | joins(one, word, things, pair.first, pair.second);
-            next = put(next, place, reached);
-        }
+    'steps: for step in 0..size.things {
+        let next = word_of(size, |first, second| {
+            has(one, size, first, second) || joins(one, word, size, first, second)
+        });
         if next == word {
             break 'steps;
         }
@@ -189,47 +128,38 @@ fn closure(one: u64, things: usize) -> u64
 }
 
 // What an operator makes of one relation.
-pub fn transformed(operator: Unary, one: u64, things: usize) -> u64
-    requires { things ≤ 8 }
-    ensures { Shows things result (transform operator things (matrix things one)) }
+pub fn transformed(operator: Unary, one: u64, size: Size) -> u64
+    ensures { Shows size.things result (transform operator size.things (matrix size.things one)) }
 {
     match operator {
-        Unary::Converse => converse(one, things),
-        Unary::Closure => closure(one, things),
-        Unary::Domain => domain(one, things),
+        Unary::Converse => converse(one, size),
+        Unary::Closure => closure(one, size),
+        Unary::Domain => domain(one, size),
     }
 }
 
 // What an operator makes of two relations.
-pub fn combined(operator: Binary, one: u64, other: u64, things: usize) -> u64
-    requires { things ≤ 8 }
-    ensures { Shows things result (combine operator things (matrix things one) (matrix things other)) }
+pub fn combined(operator: Binary, one: u64, other: u64, size: Size) -> u64
+    ensures { Shows size.things result (combine operator size.things (matrix size.things one) (matrix size.things other)) }
 {
     match operator {
         Binary::Union => one | other,
         Binary::Intersection => one & other,
-        Binary::Difference => one & (one ^ other),
-        Binary::Composition => composition(one, other, things),
+        Binary::Difference => one & !other,
+        Binary::Composition => composition(one, other, size),
     }
 }
 
 // Whether some pair stands in a relation.
-pub fn nonempty(word: u64, things: usize) -> bool
-    requires { things ≤ 8 }
-    ensures { result ≡ any things (λ i. any things (λ j. matrix things word i j)) }
+pub fn nonempty(word: u64, size: Size) -> bool
+    ensures { result ≡ any size.things (λ i. any size.things (λ j. matrix size.things word i j)) }
 {
-    for first in 0..things {
-        if leads(word, things, first) {
-            return true;
-        }
-    }
-    false
+    (0..size.things).any(|first| leads(word, size, first))
 }
 
 // Whether one relation is within the other.
-pub fn within(one: u64, other: u64, things: usize) -> bool
-    requires { things ≤ 8 }
-    ensures { result ≡ every things (λ i. every things (λ j. not (matrix things one i j) || matrix things other i j)) }
+pub fn within(one: u64, other: u64, size: Size) -> bool
+    ensures { result ≡ every size.things (λ i. every size.things (λ j. not (matrix size.things one i j) || matrix size.things other i j)) }
 {
-    !nonempty(one & (one ^ other), things)
+    !nonempty(combined(Binary::Difference, one, other, size), size)
 }

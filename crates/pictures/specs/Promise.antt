@@ -1,13 +1,13 @@
 -- What the public call promises.
-use Rattle.std.specs.Prelude.{◌≡◌, ℕ, ◌+◌, ◌*◌, ◌^◌, ◌<◌, ◌≤◌, ◌⊎◌, List, length, take, drop}
+use Rattle.std.specs.Prelude.{◌≡◌, ℕ, ◌+◌, ◌*◌, ◌^◌, ◌<◌, ◌≤◌, ◌⊎◌, List, length, take, drop, Some, None, Option, Ok, Err, Result}
 use Rattle.descriptions.specs.Pictures.{Picture}
 use Rattle.descriptions.specs.Meaning.{Description}
 use Rattle.descriptions.specs.Bytes.{Reads, depth}
 use Rattle.descriptions.specs.Theorems.{OneDescription, NamesAreNothing}
 use Rattle.descriptions.specs.First.{NoPicture, TheFirst}
 use Rattle.evaluator.specs.Packing.{bits}
-use Rattle.pictures.specs.declared.Found.{Found}
-use Rattle.pictures.specs.declared.Found.TheVariants.{First, None, NoDescription, OutFull, Few}
+use Rattle.pictures.specs.declared.Refusal.{Refusal}
+use Rattle.pictures.specs.declared.Refusal.TheVariants.{NoDescription, OutFull, Few}
 
 -- the work words that have to be lent for s bytes and at most n things, with 'for every' q deep
 abbrev pub floor_of : ℕ → ℕ → ℕ → ℕ
@@ -55,12 +55,16 @@ pub record FewSays (s : List ℕ) (n : ℕ) (o o' : List ℕ) (w : ℕ) : Type 0
   pub few : TooFewWords s n w description
   pub same : o' ≡ o
 
+-- the first picture's number of things; that there is none; or a refusal
+abbrev pub Found : Type 0
+Found = Result (Option ℕ) Refusal
+
 abbrev pub FoundSays : List ℕ → ℕ → List ℕ → List ℕ → ℕ → Found → Type 0
-FoundSays s n o o' w (First m) = FirstSays s n m o o'
-FoundSays s n o o' w None = NoneSays s n o o'
-FoundSays s n o o' w NoDescription = NoDescriptionSays s o o'
-FoundSays s n o o' w OutFull = OutFullSays s n o o'
-FoundSays s n o o' w Few = FewSays s n o o' w
+FoundSays s n o o' w (Ok (Some m)) = FirstSays s n m o o'
+FoundSays s n o o' w (Ok None) = NoneSays s n o o'
+FoundSays s n o o' w (Err NoDescription) = NoDescriptionSays s o o'
+FoundSays s n o o' w (Err OutFull) = OutFullSays s n o o'
+FoundSays s n o o' w (Err Few) = FewSays s n o o' w
 
 -- the theorems that the answers rest on
 pub record Parts : Type 0 where
@@ -70,17 +74,20 @@ pub record Parts : Type 0 where
 -- the bytes s, at most n things, out before and after, and w work words: which answer comes, and what it says
 pub record FoundPost (s : List ℕ) (n : ℕ) (o o' : List ℕ) (w : ℕ) (r : Found) : Type 0 where
   pub says : FoundSays s n o o' w r
-  pub room : (d : Description) → Reads s d → TooFewWords s n w d → r ≡ Few
-  pub full : (d : Description) → Reads s d → length o < d.relations * (n * n) → (r ≡ OutFull) ⊎ (r ≡ Few)
+  pub room : (d : Description) → Reads s d → TooFewWords s n w d → r ≡ Err Few
+  pub full : (d : Description) → Reads s d → length o < d.relations * (n * n) → (r ≡ Err OutFull) ⊎ (r ≡ Err Few)
   pub parts : Parts
 
 -- the answers as numbers: a number of things, or a code past all of them
+abbrev pub refusal_code : Refusal → ℕ
+refusal_code NoDescription = 0x101
+refusal_code OutFull = 0x102
+refusal_code Few = 0x103
+
 abbrev pub code : Found → ℕ
-code (First m) = m
-code None = 0x100
-code NoDescription = 0x101
-code OutFull = 0x102
-code Few = 0x103
+code (Ok (Some m)) = m
+code (Ok None) = 0x100
+code (Err refusal) = refusal_code refusal
 
 pub record CodePost (s : List ℕ) (n : ℕ) (o o' : List ℕ) (w c : ℕ) : Type 0 where
   pub found : Found

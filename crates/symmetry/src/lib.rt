@@ -4,8 +4,6 @@
 ghost use Rattle.descriptions.specs.Theorems.{NamesAreNothing};
 
 // Theorem: what things are called is nothing.
-pub fn names_are_nothing() -> u8
+pub fn names_are_nothing()
     ensures { NamesAreNothing }
-{
-    0
-}
+{}

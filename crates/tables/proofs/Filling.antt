@@ -1,22 +1,22 @@
 -- Places of pairs, chains of gates, and tables filled place by place.
-use Rattle.std.proofs.Common.{◌≡◌, ℕ, zero, suc, ◌+◌, ◌*◌, ◌/◌, ◌%◌, ◌<◌, ◌≤◌, Bool, true, false, not, ◌&&◌, ◌||◌, ◌⊎◌, List, length, get_or, set, Some, None, Option, sym, refl, ap, ◌∙◌, subst, inl, inr, mul-le-mul_right, add-mul, mul-le-mul, one-mul, add-one, arith, length-set}
+use Rattle.std.proofs.Common.{◌≡◌, ℕ, zero, suc, ◌+◌, ◌*◌, ◌/◌, ◌%◌, ◌<◌, ◌≤◌, Bool, true, false, not, ◌&&◌, ◌||◌, ◌⊎◌, List, get_or, set, Some, None, Option, sym, refl, ap, ◌∙◌, subst, inl, inr, mul-le-mul_right, add-mul, one-mul, add-one, arith, length-set}
 use Rattle.std.proofs.lemmas.Nat.{div-mul-add, mod-mul-add, div_below, mod_below, mul-add-lt, div-add-mod'}
 use Rattle.std.proofs.lemmas.List.{get_or-set_same, get_or-set_other}
 use Rattle.std.proofs.lemmas.Bool.{cases_lt}
+use Rattle.descriptions.specs.declared.shapes.Pair.{Pair}
+use Rattle.descriptions.specs.Shapes.{PairAt}
 use Rattle.descriptions.specs.Pictures.{Relation, any}
-use Rattle.descriptions.proofs.Quantifiers.{same_truth, any_some, any_at}
+use Rattle.descriptions.proofs.Quantifiers.{same_truth, any_some, any_at, any_cong}
 use Rattle.clauses.specs.Formulas.{Assignment, value, negation}
 use Rattle.clauses.proofs.Literals.{value_negation}
 use Rattle.gates.specs.declared.circuit.Circuit.{Circuit}
-use Rattle.gates.specs.Circuits.{mix, Goes, Sound, Grows, Adds, Gives, Came}
-use Rattle.gates.proofs.Literals.{value_true, value_false}
+use Rattle.gates.specs.Words.{mix, Goes, Grows, Adds, Gives}
+use Rattle.gates.specs.Circuits.{GoesC, GivesC, Full, Came}
+use Rattle.gates.proofs.Literals.{value_false}
 use Rattle.gates.proofs.Gates.{gives_still, grows_on}
-use Rattle.tables.specs.Tables.{shown, Filled, Shows, Upto}
+use Rattle.tables.specs.Tables.{shown, Filled, Shows, ShowsC, Upto}
 
 -- places
-pub square : (m : ℕ) → m ≤ 8 → m * m ≤ 64
-square m h = mul-le-mul h h
-
 pub place_lt : (m i j : ℕ) → i < m → j < m → i * m + j < m * m
 place_lt m i j hi hj = mul-add-lt i m j m hi hj
 
@@ -28,6 +28,13 @@ pub at_place : (α : Assignment) (m k : ℕ) (t : List ℕ) → value α (get_or
 unfolding shown
 at_place α m k t = ap (λ (z : ℕ). value α (get_or t z 0)) (sym (div-add-mod' k m))
 
+-- at a pair that was worked out
+pub at_pair : (m place : ℕ) (p : Pair) (Q : ℕ → ℕ → Type 0) → PairAt place m p → Q p.first p.second → Q (place / m) (place % m)
+at_pair m place p Q q x = subst (λ (i : ℕ). Q i (place % m)) q.first (subst (λ (j : ℕ). Q p.first j) q.second x)
+
+pub filled_place : {b n m : ℕ} (t : List ℕ) (k : ℕ) → k < m * m → Filled b n m t → get_or t k 0 < 2 * (b + n)
+filled_place {b} {n} {m} t k h f = let p = place_parts m k h in subst (λ (z : ℕ). get_or t z 0 < 2 * (b + n)) (div-add-mod' k m) (f.low (k / m) (k % m) p.0 p.1)
+
 -- costs
 pub cost_step : (p c : ℕ) → p * c + c ≡ (p + 1) * c
 cost_step p c = sym (add-mul p 1 c ∙ ap (λ (z : ℕ). p * c + z) (one-mul c))
@@ -38,20 +45,31 @@ cost_last p q c h = subst (λ (z : ℕ). z ≤ q * c) (sym (cost_step p c)) (let
 -- gates that are added one after the other
 module _ {b : ℕ} {g : List ℕ} {n : ℕ} {t : List ℕ} {c : ℕ} {b' : ℕ} {g' : List ℕ} {n' : ℕ} {t' : List ℕ} {c' : ℕ} where
   pub adds_on : {b'' : ℕ} {g'' : List ℕ} {n'' : ℕ} {t'' : List ℕ} {c'' : ℕ} (x y most : ℕ) → Adds b g n t c b' g' n' t' c' x → Adds b' g' n' t' c' b'' g'' n'' t'' c'' y → x + y ≤ most → Adds b g n t c b'' g'' n'' t'' c'' most
-  adds_on x y most r s h = record { sound = s.sound; grew = grows_on r.grew s.grew; few = omega (arith, r.few, s.few) }
-
-  pub adds_less : (x most : ℕ) → Adds b g n t c b' g' n' t' c' x → x ≤ most → Adds b g n t c b' g' n' t' c' most
-  adds_less x most r h = record { sound = r.sound; grew = r.grew; few = omega (arith, r.few) }
+  adds_on x y most r s h = record { grew = grows_on r.grew s.grew; few = omega (arith, r.few, s.few) }
 
   pub filled_still : {m : ℕ} {u : List ℕ} → Grows b g n t c b' g' n' t' c' → Filled b n m u → Filled b' n' m u
-  filled_still r f = record { fits = f.fits; long = f.long; low = λ k h. omega (arith, f.low k h, r.same, r.more) }
+  filled_still r f = record { low = λ i j hi hj. omega (arith, f.low i j hi hj, r.same, r.more) }
 
-pub came_weaker : {R : Type 0} (d : Circuit) (o : Option R) (P Q : R → Type 0) → ((r : R) → P r → Q r) → Came d o P → Came d o Q
-came_weaker d None P Q f h = h
-came_weaker d (Some r) P Q f h = f r h
+-- the same value in other words
+pub gives_is : {b : ℕ} {g : List ℕ} {n l : ℕ} (v w : Assignment → Bool) → ((α : Assignment) → Goes b g n α → v α ≡ w α) → Gives b g n l v → Gives b g n l w
+gives_is v w e s = record { low = s.low; is = λ α o. s.is α o ∙ e α o }
 
-pub false_gives : {b : ℕ} {g : List ℕ} {n : ℕ} {t : List ℕ} {c : ℕ} → Sound b g n t c → Gives b g n 1 (λ α. false)
-false_gives s = record { low = omega (arith, s.some); is = λ α o. value_false α o.top }
+pub came_is : (d : Circuit) (o : Option ℕ) (v w : Assignment → Bool) → ((α : Assignment) → GoesC d α → v α ≡ w α) → Came d o (λ l. GivesC d l v) → Came d o (λ l. GivesC d l w)
+came_is d None v w e h = h
+came_is d (Some l) v w e h = gives_is v w e h
+
+pub came_full : {R : Type 0} (d : Circuit) (o : Option R) (v : R → Type 0) → o ≡ None → Came d o v → Full d
+came_full {R} d o v e h = subst (λ (z : Option R). Came d z v) e h
+
+pub came_some : {R : Type 0} (d : Circuit) (o : Option R) (v : R → Type 0) (l : R) → o ≡ Some l → Came d o v → v l
+came_some {R} d o v l e h = subst (λ (z : Option R). Came d z v) e h
+
+pub came_shows : (d : Circuit) (o : Option (List ℕ)) (m : ℕ) (r s : Assignment → Relation) → ((α : Assignment) (i j : ℕ) → r α i j ≡ s α i j) → Came d o (λ t. ShowsC d m t r) → Came d o (λ t. ShowsC d m t s)
+came_shows d None m r s e h = h
+came_shows d (Some t) m r s e h = record { filled = h.filled; is = λ α o i j hi hj. h.is α o i j hi hj ∙ e α i j }
+
+pub false_gives : {b : ℕ} {g : List ℕ} {n : ℕ} → 0 < b → Gives b g n 1 (λ α. false)
+false_gives s = record { low = omega arith; is = λ α o. value_false α o.top }
 
 -- a chain
 or_swap : (a b : Bool) → (a || b) ≡ (b || a)
@@ -64,19 +82,8 @@ pub chain_on : {b : ℕ} {g : List ℕ} {n : ℕ} {t : List ℕ} {c : ℕ} {b' :
 chain_on k p x y l f r u e w =
     record { low = w.low; is = λ α o. w.is α o ∙ ap (λ (z : Bool). value α p || z) (e α o) ∙ ap (λ (z : Bool). z || f α k) ((gives_still r u).is α o) ∙ or_swap (any k (f α)) (f α k) ∙ sym (ap (λ (z : ℕ). any z (f α)) (add-one k)) }
 
-pub join_pair : (α : Assignment) (m i j k : ℕ) (a b : List ℕ) → (value α (get_or a (i * m + k) 0) && value α (get_or b (k * m + j) 0)) ≡ (shown α m a i k && shown α m b k j)
-unfolding shown
-join_pair α m i j k a b = refl
-
-pub lead_pair : (α : Assignment) (m i k : ℕ) (a : List ℕ) → α 0 ≡ true → (value α 0 && value α (get_or a (i * m + k) 0)) ≡ shown α m a i k
-unfolding shown
-lead_pair α m i k a t = rw (value_true α t) refl
-
 -- place by place
 module _ (f : ℕ → Assignment → Bool) where
-  pub upto_none : (b : ℕ) (g : List ℕ) (n : ℕ) (u : List ℕ) → length u ≡ 64 → Upto b g n 0 u f
-  upto_none b g n u e = record { long = e; each = λ k h. absurd (omega arith) }
-
   pub upto_put : {b : ℕ} {g : List ℕ} {n : ℕ} {t : List ℕ} {c : ℕ} {b' : ℕ} {g' : List ℕ} {n' : ℕ} {t' : List ℕ} {c' : ℕ} (at : ℕ) (u : List ℕ) (l : ℕ) → Grows b g n t c b' g' n' t' c' → at < 64 → Upto b g n at u f → Gives b' g' n' l (f at) → Upto b' g' n' (at + 1) (set u at l) f
   upto_put {b} {g} {n} {t} {c} {b'} {g'} {n'} {t'} {c'} at u l r lt p w = record { long = length-set u at l ∙ p.long; each = λ k h. go k h (cases_lt k at) }
     where
@@ -86,11 +93,11 @@ module _ (f : ℕ → Assignment → Bool) where
           let e : at ≡ k = omega arith in
           subst (λ (z : ℕ). Gives b' g' n' (get_or (set u at l) z 0) (f z)) e (subst (λ (z : ℕ). Gives b' g' n' z (f at)) (sym (get_or-set_same u at l 0 (omega (arith, p.long)))) w)
 
-pub upto_all : (b : ℕ) (g : List ℕ) (n m at : ℕ) (u : List ℕ) (r : Assignment → Relation) → m * m ≤ at → m * m ≤ 64 → Upto b g n at u (λ k α. r α (k / m) (k % m)) → Shows b g n m u r
+pub upto_all : (b : ℕ) (g : List ℕ) (n m at : ℕ) (u : List ℕ) (r : Assignment → Relation) → m * m ≤ at → Upto b g n at u (λ k α. r α (k / m) (k % m)) → Shows b g n m u r
 unfolding shown
-upto_all b g n m at u r h fits p =
+upto_all b g n m at u r h p =
     record {
-      filled = record { fits = fits; long = p.long; low = λ k l. (p.each k (omega arith)).low };
+      filled = record { low = λ i j hi hj. (p.each (i * m + j) (omega (arith, place_lt m i j hi hj))).low };
       is = λ α o i j hi hj. (let q = place_lt m i j hi hj in (p.each (i * m + j) (omega (arith, q))).is α o ∙ rw (div-mul-add i m j hj, mod-mul-add i m j hj) refl);
     }
 
@@ -102,8 +109,8 @@ any_square m f =
     (λ e. let w = any_some m (λ i. any m (λ j. f i j)) e in let u = any_some m (λ j. f w.0 j) w.2 in
     any_at (m * m) (w.0 * m + u.0) (λ k. f (k / m) (k % m)) (place_lt m w.0 u.0 w.1 u.1) (rw (div-mul-add w.0 m u.0 u.1, mod-mul-add w.0 m u.0 u.1) u.2))
 
-pub apart_pair : (α : Assignment) (m k y : ℕ) (a b : List ℕ) → y ≡ negation (get_or b k 0) → (value α (get_or a k 0) && value α y) ≡ (shown α m a (k / m) (k % m) && not (shown α m b (k / m) (k % m)))
-apart_pair α m k y a b e = rw (e, value_negation α (get_or b k 0), at_place α m k a, at_place α m k b) refl
-
-pub apart_all : (b : ℕ) (g : List ℕ) (n m k l : ℕ) (f : Assignment → ℕ → ℕ → Bool) → k ≡ m * m → Gives b g n l (λ α. any k (λ z. f α (z / m) (z % m))) → Gives b g n l (λ α. any m (λ i. any m (λ j. f α i j)))
-apart_all b g n m k l f e w = record { low = w.low; is = λ α o. w.is α o ∙ ap (λ (x : ℕ). any x (λ z. f α (z / m) (z % m))) e ∙ any_square m (f α) }
+pub apart_pair : (α : Assignment) (m n : ℕ) (a b : List ℕ) → n ≡ m * m → any n (λ k. value α (get_or a k 0) && value α (negation (get_or b k 0))) ≡ any m (λ i. any m (λ j. shown α m a i j && not (shown α m b i j)))
+apart_pair α m n a b e =
+    ap (λ (z : ℕ). any z (λ k. value α (get_or a k 0) && value α (negation (get_or b k 0)))) e
+    ∙ any_cong (m * m) _ (λ k. shown α m a (k / m) (k % m) && not (shown α m b (k / m) (k % m))) (λ k h. rw (value_negation α (get_or b k 0), at_place α m k a, at_place α m k b) refl)
+    ∙ any_square m (λ i j. shown α m a i j && not (shown α m b i j))

@@ -4,10 +4,10 @@
 
 // Tables that need no gate.
 mod plain;
-// One pair of a relation that is made of others.
-mod pairs;
-// All pairs: what the operators make of tables.
+// Chains of gates.
+mod chains;
+// What the operators make of tables.
 mod operators;
 
 pub use operators::{apart, combined, transformed};
-pub use plain::{Plain, plain_table};
+pub use plain::{empty, identity, inputs, single};

@@ -2,4 +2,4 @@ use Rattle.exhaustive.proofs.Passing.{blank_is}
 use Rattle.exhaustive.proofs.blank.Goals as goal
 
 pub returns : goal.returns
-returns c = blank_is c.args.relations c.args.things c.requires.0 c.requires.1
+returns c = blank_is c.args.shape _

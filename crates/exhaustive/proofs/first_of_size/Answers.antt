@@ -5,13 +5,13 @@ pub loop-candidate-init : goal.loop-candidate-init
 loop-candidate-init c = passed_none _ _ _ _ c.blank-candidate.ensures
 
 pub loop-candidate-smaller : goal.loop-candidate-smaller
-loop-candidate-smaller c = fewer_left _ _ c.if-not-advance.ensures
+loop-candidate-smaller c = fewer_left _ _ c.in_ok-candidate.ensures
 
 pub loop-candidate-preserved : goal.loop-candidate-preserved
-loop-candidate-preserved c = passed_more _ _ _ c.loop-candidate.candidate c.advance.new.picture c.loop-candidate.invariant c.if-tells.ensures c.if-not-advance.ensures
+loop-candidate-preserved c = passed_more _ _ _ c.loop-candidate.candidate c.in_ok-candidate.candidate c.loop-candidate.invariant c.if-tells.ensures c.in_ok-candidate.ensures
 
-pub returns-then-tells : goal.returns-then-tells
-returns-then-tells c = reached _ _ _ c.loop-candidate.candidate c.loop-candidate.invariant c.if-tells.ensures
+pub returns-in_err-candidate : goal.returns-in_err-candidate
+returns-in_err-candidate c = rw c.from_residual.ensures (passed_all _ _ _ c.loop-candidate.candidate c.loop-candidate.invariant c.if-tells.ensures c.in_err-candidate.ensures)
 
-pub returns-then-not-advance : goal.returns-then-not-advance
-returns-then-not-advance c = passed_all _ _ _ c.loop-candidate.candidate c.advance.new.picture c.loop-candidate.invariant c.if-tells.ensures c.if-not-advance.ensures
+pub returns : goal.returns
+returns c = reached _ _ _ c.loop-candidate.candidate c.loop-candidate.invariant c.if-tells.ensures

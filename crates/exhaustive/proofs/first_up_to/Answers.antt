@@ -1,12 +1,10 @@
-use Rattle.std.proofs.Common.{arith}
-use Rattle.exhaustive.proofs.Passing.{none_more, first_of_all}
+use Rattle.std.proofs.Common.{◌+◌, None, rules, tests}
+use Rattle.exhaustive.specs.Trying.{FirstOf, Reached}
+use Rattle.exhaustive.proofs.Ranges.{first_in_range}
+use Rattle.exhaustive.proofs.Passing.{found_up_to}
 use Rattle.exhaustive.proofs.first_up_to.Goals as goal
 
-pub loop-things-preserved : goal.loop-things-preserved
-loop-things-preserved c = none_more c.args.description.now c.args.relations c.loop-things.things c.loop-things.invariant c.in_default.ensures
-
-pub returns-in-Some : goal.returns-in-Some
-returns-in-Some c = first_of_all _ _ _ _ _ (omega arith) c.loop-things.invariant c.in-Some.ensures
-
 pub returns : goal.returns
-returns c d r e m h = c.loop-things.invariant d r e m (omega arith)
+returns c =
+    found_up_to c.args.description.now c.args.most.relations c.args.most.size.things c.find_map.result
+    (first_in_range (c.args.most.size.things + 1) (λ k. FirstOf c.args.description.now c.args.most.relations k None) (λ k p. Reached c.args.description.now c.args.most.relations k p) (λ a r f' e. search (rules, tests)) (λ x lt e. search (rules, tests)) (λ x y lt e. search (rules, tests)) _ c.find_map.ensures.runs)

@@ -1,5 +1,5 @@
-use Rattle.exhaustive.proofs.Passing.{judged_tells}
+use Rattle.exhaustive.proofs.Passing.{judged_or_not}
 use Rattle.exhaustive.proofs.tells.Goals as goal
 
-pub returns-in-Some : goal.returns-in-Some
-returns-in-Some c = judged_tells _ _ _ c.in-Some.ensures
+pub returns : goal.returns
+returns c = rw c.unwrap_or.ensures (judged_or_not _ _ _ c.is_of.ensures)

@@ -3,4 +3,4 @@ use Rattle.leaders.proofs.Chaining.{Chained}
 use Rattle.leaders.proofs.chain.Given as goal
 
 abbrev pub invariant-loop-place : goal.invariant-loop-place
-invariant-loop-place l = Chained l.initial.circuit l.circuit l.things l.one l.other l.place l.smaller × (l.smaller < 2 ^ 32)
+invariant-loop-place l = Chained l.initial.circuit l.circuit l.shape.size.things l.swap.one l.swap.other l.place l.smaller × (l.smaller < 2 ^ 32)

@@ -5,8 +5,8 @@ use Rattle.leaders.proofs.lead_apart.Goals as goal
 
 pub loop-one-preserved : goal.loop-one-preserved
 loop-one-preserved c =
-    leads_on c.args.relations c.args.things c.args.gates_most c.args.claims_most _ _ _ c.args.circuit.now c.loop-one.circuit c.lead_by-added.new.circuit c.loop-one.all c.lead_by-added.result c.loop-one.invariant c.lead_by-added.ensures
-    (λ a b ab bm pair. elim (cases_eq a c.loop-one.one) [ inl e ↦ inr (e, pair.0) | inr e ↦ inl (pair.0, omega (arith, pair.1)) ])
+    leads_on _ _ _ _ _ _ _ _ _ _ _ _ c.loop-one.invariant c.lead_by-all.ensures
+    (λ a b ab bm pair. elim (cases_eq a c.loop-one.one) [ inl e ↦ inr (e, omega (arith, pair.0, e)) | inr e ↦ inl (pair.0, omega (arith, pair.1, e)) ])
 
 pub returns : goal.returns
-returns c = leads_for c.args.relations c.args.things c.args.gates_most c.args.claims_most _ _ c.args.circuit.now c.loop-one.circuit c.loop-one.all c.loop-one.invariant (λ a b ab bm pair. (pair.0, omega (arith, pair.0, pair.1)))
+returns c = leads_for _ _ _ _ _ _ _ _ _ c.loop-one.invariant (λ a b ab bm pair. (pair, omega (arith, pair)))

@@ -1,6 +1,6 @@
-use Rattle.std.proofs.Common.{◌≡◌, ◌<◌}
+use Rattle.std.proofs.Common.{◌≡◌, ◌+◌, ◌<◌}
 use Rattle.leaders.specs.Leading.{Leads}
 use Rattle.leaders.proofs.lead_apart.Given as goal
 
 abbrev pub invariant-loop-one : goal.invariant-loop-one
-invariant-loop-one l = Leads l.initial.circuit l.relations l.things l.gates_most l.claims_most (λ a b. (b ≡ l.other) × (a < l.one)) l.circuit l.all
+invariant-loop-one l = Leads l.initial.circuit l.shape.relations l.shape.size.things l.limits.gates l.limits.claims (λ a b. (b ≡ a + l.distance) × (a < l.one)) l.circuit l.all

@@ -1,14 +1,5 @@
-use Rattle.std.proofs.Common.{Bool, ◌&&◌, eqb, ap, ◌∙◌, arith}
-use Rattle.descriptions.specs.Pictures.{any}
-use Rattle.matrices.specs.Words.{matrix}
-use Rattle.matrices.proofs.Fill.{upto_none, upto_more, upto_all, at_pair}
+use Rattle.std.proofs.Common.{rules, tests}
 use Rattle.matrices.proofs.domain.Goals as goal
 
-pub loop-place-init : goal.loop-place-init
-loop-place-init c = upto_none _
-
-pub loop-place-preserved : goal.loop-place-preserved
-loop-place-preserved c = upto_more _ _ _ _ _ c.loop-place.invariant (ap (λ (b : Bool). eqb c.pair_at-pair.result.first c.pair_at-pair.result.second && b) c.leads.ensures ∙ at_pair c.args.things (λ i j. eqb i j && any c.args.things (λ k. matrix c.args.things c.args.one i k)) _ c.pair_at-pair.result c.pair_at-pair.ensures) c.put-word.ensures
-
 pub returns : goal.returns
-returns c = upto_all (λ i j. eqb i j && any c.args.things (λ k. matrix c.args.things c.args.one i k)) c.args.things _ _ (omega arith) (omega (arith, c.loop-place-test.false)) c.loop-place.invariant
+returns c i j hi hj = let h = c.word_of.ensures i j hi hj in search (rules, tests)

@@ -1,12 +1,5 @@
-use Rattle.std.proofs.Common.{eqb, refl, ◌∙◌, arith}
-use Rattle.matrices.proofs.Fill.{upto_none, upto_more, upto_all, at_pair}
+use Rattle.std.proofs.Common.{rules, tests}
 use Rattle.matrices.proofs.identity.Goals as goal
 
-pub loop-place-init : goal.loop-place-init
-loop-place-init c = upto_none _
-
-pub loop-place-preserved : goal.loop-place-preserved
-loop-place-preserved c = upto_more _ _ _ _ _ c.loop-place.invariant (refl ∙ at_pair c.args.things (λ i j. eqb i j) _ c.pair_at-pair.result c.pair_at-pair.ensures) c.put-word.ensures
-
 pub returns : goal.returns
-returns c = upto_all (λ i j. eqb i j) c.args.things _ _ (omega arith) (omega (arith, c.loop-place-test.false)) c.loop-place.invariant
+returns c i j hi hj = let h = c.word_of.ensures i j hi hj in search (rules, tests)

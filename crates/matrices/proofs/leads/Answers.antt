@@ -1,10 +1,6 @@
-use Rattle.std.proofs.Common.{sym, ◌∙◌}
-use Rattle.descriptions.proofs.Quantifiers.{any_at, any_more}
-use Rattle.matrices.specs.Words.{matrix}
+use Rattle.std.proofs.Common.{rules, tests}
+use Rattle.matrices.proofs.Ranges.{any_of_range}
 use Rattle.matrices.proofs.leads.Goals as goal
 
-pub returns-then-has : goal.returns-then-has
-returns-then-has c = sym (any_at _ _ _ c.loop-second-test.true (sym c.if-has.ensures))
-
-pub loop-second-preserved : goal.loop-second-preserved
-loop-second-preserved c = any_more c.loop-second.second (λ k. matrix c.args.things c.args.word c.args.first k) c.loop-second.invariant (sym c.has.ensures ∙ c.if-has.false)
+pub returns : goal.returns
+returns c = any_of_range _ _ c.any.ensures.ran (λ x b q k. search (rules, tests))

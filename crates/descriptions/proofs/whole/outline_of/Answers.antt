@@ -1,4 +1,5 @@
 use Rattle.std.proofs.Common.{refl, arith}
+use Rattle.descriptions.proofs.Operands.{depth_small}
 use Rattle.descriptions.proofs.Sentences.{no_sentence_there, not_whole, whole}
 use Rattle.descriptions.proofs.whole.outline_of.Goals as goal
 
@@ -19,3 +20,6 @@ returns-then-extent-description c =
 pub returns-else-extent-description : goal.returns-else-extent-description
 returns-else-extent-description c =
     not_whole c.args.description.now c.in_ok-relations.relations c.in_ok-relations.ensures.1 c.in_ok-extent.extent.end _ c.in_ok-extent.ensures c.if-extent-description.false
+
+pub invariant_of-result : goal.invariant_of-result
+invariant_of-result c = record { few = omega arith; shallow = depth_small _ _ _ c.in_ok-extent.extent c.in_ok-extent.ensures }

@@ -1,19 +1,26 @@
-use Rattle.gates.proofs.Clauses.{negated_known, gate_writes}
+use Rattle.std.proofs.Common.{rules}
+use Rattle.gates.proofs.Clauses.{negated_known, two_low, three_low, gate_writes}
 use Rattle.gates.proofs.writing.write_gate.Goals as goal
 
-pub write_two-requires : goal.write_two-requires
-write_two-requires c = record { stored = c.requires.stored; known = (negated_known _ _ _ c.negated.ensures c.requires.inputs.0, c.requires.gate) }
+pub write_clause-requires : goal.write_clause-requires
+write_clause-requires c = two_low _ _ _ (negated_known _ _ _ c.negated.ensures c.requires.p) c.requires.gate
 
-pub write_three-requires : goal.write_three-requires
-write_three-requires c = record { stored = c.if-not-write_two.ensures.stored; known = (negated_known _ _ _ c.negated-2.ensures c.requires.inputs.1.0, (negated_known _ _ _ c.negated-3.ensures c.requires.inputs.1.1, c.requires.gate)) }
+pub write_clause-requires-2 : goal.write_clause-requires-2
+write_clause-requires-2 c =
+    let v = c.in_ok-write_clause.ensures.memory.variables in
+    rw v (three_low _ _ _ _ (negated_known _ _ _ c.negated-2.ensures c.requires.x) (negated_known _ _ _ c.negated-3.ensures c.requires.y) c.requires.gate)
 
-pub write_three-requires-2 : goal.write_three-requires-2
-write_three-requires-2 c = record { stored = c.if-not-write_three.ensures.stored; known = (negated_known _ _ _ c.negated-not.ensures c.requires.gate, (c.requires.inputs.0, c.requires.inputs.1.0)) }
+pub write_clause-requires-3 : goal.write_clause-requires-3
+write_clause-requires-3 c =
+    let v = c.in_ok-write_clause.ensures.memory.variables in let v' = c.in_ok-write_clause-2.ensures.memory.variables in
+    rw (v', v) (three_low _ _ _ _ (negated_known _ _ _ c.negated-not.ensures c.requires.gate) c.requires.p c.requires.x)
 
-pub write_three-requires-3 : goal.write_three-requires-3
-write_three-requires-3 c = record { stored = c.if-not-write_three-2.ensures.stored; known = (negated_known _ _ _ c.negated-not.ensures c.requires.gate, (c.requires.inputs.0, c.requires.inputs.1.1)) }
+pub write_clause-requires-4 : goal.write_clause-requires-4
+write_clause-requires-4 c =
+    let v = c.in_ok-write_clause.ensures.memory.variables in let v' = c.in_ok-write_clause-2.ensures.memory.variables in let v'' = c.in_ok-write_clause-3.ensures.memory.variables in
+    rw (v'', v', v) (three_low _ _ _ _ (negated_known _ _ _ c.negated-not.ensures c.requires.gate) c.requires.p (search rules))
 
 pub returns : goal.returns
 returns c =
     gate_writes c.args.gate c.args.inputs.p c.args.inputs.x c.args.inputs.y c.negated-not.result c.negated.result c.negated-2.result c.negated-3.result c.negated-not.ensures c.negated.ensures c.negated-2.ensures c.negated-3.ensures
-    _ _ _ _ _ _ c.if-not-write_two.ensures c.if-not-write_three.ensures c.if-not-write_three-2.ensures _ c.write_three-3.ensures
+    _ _ _ _ _ c.in_ok-write_clause.ensures c.in_ok-write_clause-2.ensures c.in_ok-write_clause-3.ensures _ c.write_clause-4.ensures

@@ -1,29 +1,33 @@
-use Rattle.std.proofs.Common.{◌*◌, ◌≤◌, refl, mul-le-mul_right, arith}
-use Rattle.gates.proofs.Gates.{adds_none}
-use Rattle.tables.specs.Tables.{shown, made, way_cost}
-use Rattle.tables.proofs.Filling.{square, adds_on, adds_less, upto_none, upto_put, upto_all, cost_step, cost_last}
+use Rattle.std.proofs.Common.{◌≡◌, ◌*◌, ◌/◌, ◌%◌, ◌∙◌, arith, length-set}
+use Rattle.gates.specs.Circuits.{GivesC}
+use Rattle.gates.proofs.Gates.{grows_on}
+use Rattle.tables.proofs.Filling.{at_pair, adds_on, came_full, came_some, upto_put, upto_all, cost_step, cost_last}
 use Rattle.tables.proofs.operators.all_pairs.Goals as goal
 
-pub loop-place-init : goal.loop-place-init
-loop-place-init c = (adds_none c.requires.sound _, upto_none _ _ _ _ _ refl)
-
-pub returns-in_err-table : goal.returns-in_err-table
-returns-in_err-table c =
-    record { adds = adds_on (c.loop-place.place * way_cost c.args.way c.args.things) (way_cost c.args.way c.args.things) _ c.loop-place.invariant.0 c.pair.ensures.adds (cost_last _ _ _ c.loop-place-test.true); came = rw c.from_residual.ensures c.in_err-table.ensures.came }
-
-pub bounds-table-place : goal.bounds-table-place
-bounds-table-place c = omega (arith, square c.args.things c.requires.few)
+pub returns-in_err-table-clause-made : goal.returns-in_err-table-clause-made
+returns-in_err-table-clause-made g c cost value makes =
+    let so = c.loop-place.invariant.2 cost value makes in
+    let w = makes _ _ _ _ c.loop-place.invariant.0 c.pair_at.ensures.first_below c.pair_at.ensures.second_below c.literal.ensures in (
+      adds_on (c.loop-place.place * cost) cost _ so.0 w.0 (cost_last c.loop-place.place (c.args.size.things * c.args.size.things) _ (omega (arith, c.pairs-place-end.ensures.0))),
+      rw c.from_residual.ensures (came_full c.literal.new.arg2 _ _ c.in_err-table.was w.1),
+    )
 
 pub loop-place-preserved : goal.loop-place-preserved
-loop-place-preserved c = (
-  adds_on (c.loop-place.place * way_cost c.args.way c.args.things) (way_cost c.args.way c.args.things) _ c.loop-place.invariant.0 c.pair.ensures.adds (omega (arith, cost_step c.loop-place.place (way_cost c.args.way c.args.things))),
-  upto_put _ _ _ _ c.pair.ensures.adds.grew (omega (arith, square c.args.things c.requires.few)) c.loop-place.invariant.1 c.in_ok-table.ensures.came,
-)
+loop-place-preserved g c =
+    let i = c.loop-place.invariant in (
+      grows_on i.0 (c.requires.grows _ _ _ _ i.0 c.pair_at.ensures.first_below c.pair_at.ensures.second_below c.literal.ensures),
+      length-set _ _ _ ∙ i.1,
+      λ cost value makes.
+          (let so = i.2 cost value makes in
+          let w = makes _ _ _ _ i.0 c.pair_at.ensures.first_below c.pair_at.ensures.second_below c.literal.ensures in (
+            adds_on (c.loop-place.place * cost) cost _ so.0 w.0 (omega (arith, cost_step c.loop-place.place cost)),
+            upto_put (λ k α. value α (k / c.args.size.things) (k % c.args.size.things)) _ _ c.in_ok-table.field-0 w.0.grew c.pair_at.ensures.low so.1
+                (at_pair c.args.size.things _ _ (λ i j. GivesC c.literal.new.arg2 c.in_ok-table.field-0 (λ α. value α i j)) c.pair_at.ensures (came_some c.literal.new.arg2 _ _ _ c.in_ok-table.was w.1)),
+          )),
+    )
 
-pub returns : goal.returns
-returns c =
-    let e : c.loop-place.place ≤ c.args.things * c.args.things = omega arith in
-    record {
-      adds = adds_less (c.loop-place.place * way_cost c.args.way c.args.things) _ c.loop-place.invariant.0 (mul-le-mul_right _ e);
-      came = upto_all _ _ _ c.args.things _ _ (λ α. made c.args.way c.args.things (shown α c.args.things c.args.one.now) (shown α c.args.things c.args.other.now)) c.loop-place-test.false (square _ c.requires.few) c.loop-place.invariant.1;
-    }
+pub returns-clause-made : goal.returns-clause-made
+returns-clause-made g c cost value makes =
+    let so = c.loop-place.invariant.2 cost value makes in
+    let all : c.loop-place.place ≡ c.args.size.things * c.args.size.things = omega (arith, c.pairs-place-end.ensures.0) in
+    (rw (← all) so.0, upto_all _ _ _ c.args.size.things _ _ value (omega arith) so.1)

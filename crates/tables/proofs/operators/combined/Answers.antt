@@ -1,13 +1,9 @@
+use Rattle.std.proofs.Common.{rules}
 use Rattle.descriptions.specs.Meaning.{combine}
-use Rattle.tables.specs.declared.pairs.Way.TheVariants.{Of}
-use Rattle.tables.specs.Tables.{shown, made}
-use Rattle.tables.proofs.Filling.{came_weaker}
-use Rattle.tables.proofs.Ways.{shows_is, of_operator}
+use Rattle.tables.specs.Tables.{shown, binary_cost}
 use Rattle.tables.proofs.operators.combined.Goals as goal
 
 pub returns : goal.returns
 returns c =
-    record {
-      adds = c.all_pairs.ensures.adds;
-      came = came_weaker c.all_pairs.new.circuit _ _ _ (λ t w. shows_is (λ α. made (Of c.args.operator) c.args.things (shown α c.args.things c.args.one) (shown α c.args.things c.args.other)) (λ α. combine c.args.operator c.args.things (shown α c.args.things c.args.one) (shown α c.args.things c.args.other)) (λ α i j. of_operator c.args.operator c.args.things _ _ i j) w) c.all_pairs.ensures.came;
-    }
+    let made = c.all_pairs.ensures.made (binary_cost c.args.operator c.args.size.things) (λ α. combine c.args.operator c.args.size.things (shown α c.args.size.things c.args.one.now) (shown α c.args.size.things c.args.other.now)) (λ d e p r grew i j post. search rules) in
+    record { adds = made.0; came = made.1 }

@@ -1,11 +1,9 @@
-use Rattle.std.proofs.Common.{◌+◌, ◌*◌, ◌≤◌, length, arith}
-use Rattle.gates.proofs.Gates.{added_adds, added_gives}
+use Rattle.std.proofs.Common.{arith}
+use Rattle.gates.proofs.Triples.{put}
+use Rattle.gates.proofs.Gates.{put_gives}
 use Rattle.gates.proofs.circuit.Circuit.push.Goals as goal
 
-pub returns : goal.returns
-returns c =
-    let h : 3 * c.args.self.now.count + 3 ≤ length c.args.self.now.words.now = omega arith in
-    record {
-      adds = added_adds c.args.self.now.base c.args.self.now.words.now c.args.self.now.count c.args.self.now.claims.now c.args.self.now.claimed c.args.p c.args.x c.args.y h c.requires.sound c.requires.inp c.requires.inx c.requires.iny;
-      came = added_gives c.args.self.now.base c.args.self.now.words.now c.args.self.now.count c.args.self.now.claims.now c.args.self.now.claimed c.args.p c.args.x c.args.y h;
-    }
+pub returns-clause-came : goal.returns-clause-came
+returns-clause-came c =
+    put_gives c.args.self.now.base c.args.self.now.words.now c.args.self.now.count c.args.inputs.p c.args.inputs.x c.args.inputs.y _
+    (put _ _ _ _ _ _ _ c.if-self-at.false (omega arith) c.copy_from_slice.ensures.after)

@@ -2,4 +2,4 @@ use Rattle.gates.proofs.Clauses.{circuit_written}
 use Rattle.gates.proofs.circuit.Circuit.write.Goals as goal
 
 pub returns : goal.returns
-returns c = circuit_written c.args.variables c.args.self.now _ _ _ _ c.requires.empty.0 c.requires.empty.1 c.if-not-write_unit.ensures c.if-not-write_gates.ensures _ c.write_claims.ensures
+returns c = circuit_written c.args.self.now _ _ _ _ c.requires.empty.0 c.requires.empty.1 c.in_ok-write_clause.ensures c.in_ok-write_gates.ensures _ c.write_claims.ensures

@@ -1,0 +1,5 @@
+use Rattle.gates.proofs.Clauses.{added_writes}
+use Rattle.gates.proofs.writing.write_clause.Goals as goal
+
+pub returns : goal.returns
+returns c = added_writes _ _ _ c.requires _ c.add.ensures

@@ -1,6 +1,0 @@
-use Rattle.std.proofs.Common.{◌*◌}
-use Rattle.gates.specs.Writing.{Writes, Valued}
-use Rattle.gates.proofs.writing.write_gates.Given as goal
-
-abbrev pub invariant-loop-gate : goal.invariant-loop-gate
-invariant-loop-gate l = Writes l.variables l.initial.store (4 * l.gate) (11 * l.gate) (Valued l.base l.words l.gate) l.store

@@ -1,6 +1,0 @@
-use Rattle.std.proofs.Common.{◌≡◌, ◌+◌, ◌<◌}
-use Rattle.leaders.specs.Leading.{Leads}
-use Rattle.leaders.proofs.lead_adjacent.Given as goal
-
-abbrev pub invariant-loop-other : goal.invariant-loop-other
-invariant-loop-other l = Leads l.initial.circuit l.relations l.things l.gates_most l.claims_most (λ a b. (b ≡ a + 1) × (b < l.other)) l.circuit l.all

@@ -16,12 +16,10 @@ pub fn open_variable(trail: &Trail, most: usize) -> Option<u32>
     ensures { OpenSays most trail.now.values result }
 {
     trail.keeps();
-    for (variable, value) in trail.values()[..most].iter().enumerate() {
-        if *value == 0 {
-            return Some(variable as u32);
-        }
-    }
-    None
+    trail.values()[..most]
+        .iter()
+        .position(|value| *value == 0)
+        .map(|variable| variable as u32)
 }
 
 // The first variable without a value by an order, or any.

@@ -41,7 +41,7 @@ absorbed_if f v values seen clause except (Some _) known follows taken = absorbe
 absorbed_if f v values seen clause except None known follows taken = taken
 
 -- a clause that is false
-pub apart_first : (f : List (List ℕ)) (v : ℕ) (values seen : List ℕ) → v < 2147483647 → Absorbed f v values seen 0xffff_ffff → Apart f values seen
+pub apart_first : (f : List (List ℕ)) (v : ℕ) (values seen : List ℕ) → v < 2147483648 → Absorbed f v values seen 0xffff_ffff → Apart f values seen
 apart_first f v values seen few a α m = elim (a α m) [ inl t ↦ absurd (omega (arith, t.0)) | inr e ↦ e.differs ]
 
 -- a literal that is true replaced by its reason

@@ -18,7 +18,8 @@ use propagation::Search;
 use std::marker::Model;
 use trail::Trail;
 
-// No variable has this literal.
+// No variable has this literal: with it in an Option's place, what is said of the literal that stays out
+// is said of a number in each definition.
 const NO_LITERAL: u32 = 0xffff_ffff;
 
 // Which variables are marked; all that were marked once, in turn; and the clause that is learned.
@@ -59,10 +60,10 @@ fn is_never(search: &Search, literal: u32) -> bool
 
 // The literal of a variable that is false under the values.
 fn false_literal(trail: &Trail, variable: u32) -> u32
-    requires { variable < variables_on trail.now }
+    requires few { variables_on trail.now < 2147483648 }
+    requires known { variable < variables_on trail.now }
     ensures { result ≡ literal_of trail.now.values variable }
 {
-    trail.keeps();
     if trail.holds(2 * variable) {
         2 * variable + 1
     } else {
@@ -91,7 +92,8 @@ fn gather(
     count: usize,
     buffer: &mut [u32],
 ) -> Option<usize>
-    requires { Noted (variables_on trail.now) seen.now touched.now count }
+    requires few { variables_on trail.now < 2147483648 }
+    requires noted { Noted (variables_on trail.now) seen.now touched.now count }
     ensures size { length buffer.new ≡ length buffer.old }
     ensures room { IfSome result (λ size. size ≤ length buffer.new) }
     ensures gathered { IfSome result (λ size. Gathered (variables_on trail.now) trail.now.values seen.now (take count touched.now) (take size buffer.new)) }
@@ -269,6 +271,7 @@ impl Analysis<'_> {
         ensures size { length self.new.seen ≡ length self.old.seen }
         ensures apart { OnSome result (ApartA search.now self.new) }
     {
+        search.keeps();
         let trail = search.trail();
         // what is met may change as it is gone through
         for index in 0..self.count {
@@ -301,6 +304,7 @@ impl Analysis<'_> {
         ensures known { Known (variables_of search.now) (clause_of self.new) }
         ensures follows { OnSome result (Follows (formula_of search.now) (clause_of self.new)) }
     {
+        search.keeps();
         self.size = 0;
         let count = self.count;
         let seen = &mut *self.seen;

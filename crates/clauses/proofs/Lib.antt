@@ -6,3 +6,5 @@ pub mod Literals
 pub mod Answering
 -- clauses that are kept
 pub mod Retaining
+-- stores that grow
+pub mod Growing

@@ -12,7 +12,7 @@ abbrev pub IsList : ListInside → Type 0
 IsList s = Stored s.variables s.spans.now s.words.now s.count (length s.words.now)
 
 abbrev pub store_view : Inside → StoreView
-store_view s = record { variables = s.variables; formula = formula s.spans.now s.words.now s.count; used = s.used; spans_size = length s.spans.now; words_size = length s.words.now }
+store_view s = record { variables = s.variables; formula = formula s.spans.now s.words.now s.count; used = s.used; spans = s.spans; words = s.words }
 
 pub record IsStored (s : Inside) : Type 0 where
   pub stored : Stored s.variables s.spans.now s.words.now s.count s.used

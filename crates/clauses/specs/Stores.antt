@@ -70,13 +70,24 @@ Sound f g = (k : ℕ) → k < length g → Follows f (clause_at g k)
 -- a store in the same memory
 pub record SameMemory (s t : StoreView) : Type 0 where
   pub variables : t.variables ≡ s.variables
-  pub spans_size : t.spans_size ≡ s.spans_size
-  pub words_size : t.words_size ≡ s.words_size
+  pub spans_named : t.spans.ghost_name ≡ s.spans.ghost_name
+  pub words_named : t.words.ghost_name ≡ s.words.ghost_name
+  pub spans_size : length t.spans.now ≡ length s.spans.now
+  pub words_size : length t.words.now ≡ length s.words.now
+
+-- there, the clauses that stood there are as they were, and others may stand behind them
+pub record Grown (s t : StoreView) : Type 0 where
+  pub memory : SameMemory s t
+  pub spans : (p : ℕ) → p < 2 * length s.formula → slice_index t.spans.now p ≡ slice_index s.spans.now p
+  pub words : (p : ℕ) → p < s.used → slice_index t.words.now p ≡ slice_index s.words.now p
+  pub used : s.used ≤ t.used
+  pub more : List (List ℕ)
+  pub formula : t.formula ≡ s.formula ++ more
 
 -- there is room for one clause of n literals more
 pub record Fits (s : StoreView) (n : ℕ) : Type 0 where
-  pub spans : 2 * (length s.formula + 1) ≤ s.spans_size
-  pub words : s.used + n ≤ s.words_size
+  pub spans : 2 * (length s.formula + 1) ≤ length s.spans.now
+  pub words : s.used + n ≤ length s.words.now
   pub small : s.used + n < 2 ^ 32
 
 -- one clause more, and the rest as it was
@@ -86,6 +97,8 @@ pub record Added (c : List ℕ) (s t : StoreView) : Type 0 where
   pub formula : t.formula ≡ s.formula ++ (c ∷ [])
   pub used : t.used ≡ s.used + length c
   pub memory : SameMemory s t
+  pub spans : (p : ℕ) → p < 2 * length s.formula → slice_index t.spans.now p ≡ slice_index s.spans.now p
+  pub words : (p : ℕ) → p < s.used → slice_index t.words.now p ≡ slice_index s.words.now p
 
 -- a clause is refused only if a literal is of no variable, or for want of room; then nothing changes
 abbrev pub AddedIf : List ℕ → StoreView → StoreView → Result (Unit {0}) Unfit → Type 0

@@ -40,8 +40,8 @@ impl<'a> Store<'a> {
         ensures variables { result.variables ≡ variables }
         ensures formula { result.formula ≡ [] }
         ensures used { result.used ≡ 0 }
-        ensures spans { result.spans_size ≡ length spans.old }
-        ensures words { result.words_size ≡ length words.old }
+        ensures spans { result.spans ≡ spans.entry }
+        ensures words { result.words ≡ words.entry }
     {
         Store {
             variables,
@@ -69,7 +69,7 @@ impl Store<'_> {
 
     pub fn len(&self) -> usize
         ensures is { result ≡ length self.now.formula }
-        ensures few { 2 * result ≤ self.now.spans_size }
+        ensures few { 2 * result ≤ length self.now.spans.now }
     {
         self.count
     }

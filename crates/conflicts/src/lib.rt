@@ -61,28 +61,28 @@ impl<'a> Model for Learner<'a> {
     ghost invariant = { IsLearner };
 }
 
-// Gives the variables from a place of the trail on back to the order, and notes their values.
-fn release(trail: &Trail, order: &mut Order, phases: &mut [u32], decided: usize, from: usize)
-    requires order { order.old.variables ≡ variables_on trail.now }
-    requires phases { length phases.old ≡ variables_on trail.now }
-    ensures { order.new.variables ≡ order.old.variables }
-{
+// Gives the variables from a place of the trail on back to the order, and notes their values, as far as
+// there is room for them.
+fn release(trail: &Trail, order: &mut Order, phases: &mut [u32], decided: usize, from: usize) {
+    let known = decided.min(order.variables());
     for place in from..trail.len() {
         let literal = trail.literal(place);
-        phases[(literal / 2) as usize] = 1 - literal % 2;
-        if ((literal / 2) as usize) < decided {
+        let variable = (literal / 2) as usize;
+        if let Some(phase) = phases.get_mut(variable) {
+            *phase = 1 - literal % 2;
+        }
+        if variable < known {
             order.insert(literal / 2);
         }
     }
 }
 
 // Makes the variables that a conflict met more active.
-fn bump_met(analysis: &Analysis, order: &mut Order)
-    requires { length analysis.now.seen ≡ order.old.variables }
-    ensures { order.new.variables ≡ order.old.variables }
-{
+fn bump_met(analysis: &Analysis, order: &mut Order) {
     for variable in analysis.met() {
-        order.bump(*variable);
+        if (*variable as usize) < order.variables() {
+            order.bump(*variable);
+        }
     }
     order.decay();
 }
@@ -124,7 +124,7 @@ fn watch_kept(search: &mut Search, clause: &[u32], one: u32, other: u32) -> Opti
     ensures small { ForSome result (λ number. number < 4294967295) }
 {
     let base = search.trail().problem().len();
-    let count = search.learned();
+    let count = search.learned().len();
     if base >= 0x4000_0000 || count >= 0x3fff_ffff {
         return None;
     }
@@ -165,7 +165,8 @@ impl Learner<'_> {
         self.search.propagate(start, level)
     }
 
-    // Counts a decision, a fresh start, and a time that clauses were forgotten.
+    // Counts a decision, a fresh start, and a time that clauses were forgotten: three of one line each, since
+    // one for all would have to be told which counter it is about.
     pub fn note_decision(&mut self)
         ensures { self.new ≡ self.old }
     {

@@ -1,7 +1,8 @@
 // What is learned must be forgotten again, since memory is bounded and every clause that is kept costs
 // time. The half that is kept are the clauses that are short and took part lately. Nothing rests on
 // the choice: what is kept follows as before, and what is forgotten is only no longer there.
-ghost use Rattle.std.specs.Prelude.{◌≡◌, ◌≤◌, length};
+ghost use Rattle.std.specs.Prelude.{◌≡◌, ◌+◌, ◌≤◌, length, min, slice_index};
+ghost use Rattle.learning.specs.Using.{noted_at};
 ghost use Rattle.clauses.specs.Stores.{SameMemory};
 ghost use Rattle.clauses.specs.Retaining.{SomeOf};
 
@@ -16,17 +17,31 @@ pub struct Uses<'a> {
 
 impl Uses<'_> {
     // One conflict more.
-    pub fn tick(&mut self) {
+    pub fn tick(&mut self)
+        ensures clock { self.new.clock ≡ min (self.old.clock + 1) 4294967295 }
+        ensures last { self.new.last ≡ self.old.last }
+    {
         self.clock = self.clock.saturating_add(1);
     }
 
     // Notes that a clause takes part, given by its number; those below the base are the problem's.
-    pub fn note(&mut self, number: u32, base: usize) {
+    pub fn note(&mut self, number: u32, base: usize)
+        ensures last { self.new.last.now ≡ noted_at self.old.last.now number base self.old.clock }
+        ensures named { self.new.last.ghost_name ≡ self.old.last.ghost_name }
+        ensures clock { self.new.clock ≡ self.old.clock }
+    {
         if let Some(clause) = (number as usize).checked_sub(base) {
             if clause < self.last.len() {
                 self.last[clause] = self.clock;
             }
         }
+    }
+
+    // When a clause last took part; 0 where there is no word for it.
+    fn last_of(&self, clause: usize) -> u32
+        ensures { result ≡ slice_index self.now.last.now clause }
+    {
+        self.last.get(clause).copied().unwrap_or(0)
     }
 
     // How little a clause is worth: how many conflicts ago it last took part, times its length. One of at
@@ -35,19 +50,14 @@ impl Uses<'_> {
         if size <= 2 {
             return 0;
         }
-        let last = self.last.get(clause).copied().unwrap_or(0);
-        (self.clock.saturating_sub(last) as u64).saturating_mul(size as u64)
+        (self.clock.saturating_sub(self.last_of(clause)) as u64).saturating_mul(size as u64)
     }
 
     // How many learned clauses weigh at most so much.
     fn count_up_to(&self, search: &Search, most: u64) -> usize {
-        (0..search.learned())
-            .filter(|clause| {
-                let size = search
-                    .learned_clause(*clause)
-                    .map_or(0, |literals| literals.len());
-                self.weight(*clause, size) <= most
-            })
+        let learned = search.learned();
+        (0..learned.len())
+            .filter(|number| self.weight(*number, learned.clause(*number).len()) <= most)
             .count()
     }
 
@@ -57,7 +67,7 @@ impl Uses<'_> {
         let mut high: u64 = 0xff_ffff_ffff;
         for _ in 0..40 {
             let middle = low.saturating_add(high.saturating_sub(low) / 2);
-            if self.count_up_to(search, middle) >= search.learned() / 2 {
+            if self.count_up_to(search, middle) >= search.learned().len() / 2 {
                 high = middle;
             } else {
                 low = middle.saturating_add(1);
@@ -79,7 +89,7 @@ pub fn forget(search: &mut Search, uses: &mut Uses)
     search.retain(|clause, literals| {
         let wanted = uses.weight(clause, literals.len()) <= limit;
         if wanted {
-            let last = uses.last.get(clause).copied().unwrap_or(0);
+            let last = uses.last_of(clause);
             if kept < uses.last.len() {
                 uses.last[kept] = last;
             }

@@ -9,7 +9,7 @@ pub record Ready (s : SearchView) : Type 0 where
   pub sound : Sound (formula_of s) s.learned.formula
   pub known : s.learned.variables ≡ variables_of s
   pub causes : length s.causes.reasons ≡ variables_of s
-  pub few : variables_of s < 2147483647
+  pub few : variables_of s < 2147483648
 
 -- over the same clauses, and what was learned is as it was
 pub record Same (s t : SearchView) : Type 0 where

@@ -67,15 +67,15 @@ impl Causes<'_> {
         self.places[variable as usize]
     }
 
-    pub fn note(&mut self, variable: u32, reason: Option<u32>, level: u32, place: u32)
+    pub fn note(&mut self, variable: usize, reason: Option<u32>, level: u32, place: u32)
         requires variable { variable < length self.old.reasons }
         requires small { ForSome reason (λ clause. clause < 4294967295) }
         ensures noted { NotedCause self.old self.new variable (reason_word reason) level place }
         ensures size { length self.new.reasons ≡ length self.old.reasons }
     {
-        prove!((variable as usize) < self.reasons.len());
-        self.reasons[variable as usize] = reason.map_or(0, |clause| clause + 1);
-        self.levels[variable as usize] = level;
-        self.places[variable as usize] = place;
+        prove!(variable < self.reasons.len());
+        self.reasons[variable] = reason.map_or(0, |clause| clause + 1);
+        self.levels[variable] = level;
+        self.places[variable] = place;
     }
 }

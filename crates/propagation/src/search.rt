@@ -3,9 +3,9 @@
 ghost use Rattle.std.specs.Prelude.{◌≡◌, ℕ, ◌+◌, ◌/◌, ◌%◌, ◌<◌, ◌≤◌, ◌∷◌, [], true, length, IfSome, OnOk, OnErr, slice_index, slice_set};
 ghost use Rattle.std.specs.Option.{ForSome};
 ghost use Rattle.clauses.specs.Formulas.{negation};
-ghost use Rattle.clauses.specs.Stores.{Known, Follows, AddedIf, SameMemory};
+ghost use Rattle.clauses.specs.Stores.{Known, Follows, Sound, AddedIf, SameMemory};
 ghost use Rattle.clauses.specs.Retaining.{SomeOf};
-ghost use Rattle.trail.specs.Views.{variables_of as variables_on};
+ghost use Rattle.trail.specs.Views.{variables_of as variables_on, formula_of as formula_on};
 ghost use Rattle.trail.specs.Trails.{IsTrueUnder, Jammed, Later, Falls, SameClauses, Forced, NoneModels};
 ghost use Rattle.propagation.specs.Settling.{level_below, SettledSays};
 ghost use Rattle.propagation.specs.Looking.{LookSays, LookFinds, reason_word, NotedCause};
@@ -76,19 +76,21 @@ fn look_at(trail: &Trail, clause: &[u32], other: u32) -> Look
 }
 
 impl<'a> Search<'a> {
-    // Nothing is learned yet.
+    // What was learned before, if anything, follows from the clauses.
     pub fn new(
         trail: Trail<'a>,
         causes: Causes<'a>,
         watches: Watches<'a>,
         learned: Store<'a>,
     ) -> Search<'a>
+        requires few { variables_on trail < 2147483648 }
         requires causes { length causes.reasons ≡ variables_on trail }
-        requires learned { learned.formula ≡ [] }
+        requires learned { Sound (formula_on trail) learned.formula }
         requires known { learned.variables ≡ variables_on trail }
         ensures trail { result.trail ≡ trail.entry }
+        ensures causes { result.causes ≡ causes.entry }
+        ensures learned { result.learned ≡ learned.entry }
     {
-        trail.keeps();
         Search {
             trail,
             causes,
@@ -119,20 +121,11 @@ impl<'a> Search<'a> {
         &self.causes
     }
 
-    // How many clauses are learned.
-    pub fn learned(&self) -> usize
-        ensures { result ≡ length self.now.learned.formula }
+    // The clauses that are learned.
+    pub fn learned(&self) -> &Store<'a>
+        ensures { result.now ≡ self.now.learned }
     {
-        self.learned.len()
-    }
-
-    // The literals of a learned clause, by its number among them.
-    pub fn learned_clause(&self, number: usize) -> Option<&[u32]> {
-        if number < self.learned.len() {
-            Some(self.learned.clause(number))
-        } else {
-            None
-        }
+        &self.learned
     }
 
     // The literals of a clause, by its number.
@@ -164,7 +157,8 @@ impl<'a> Search<'a> {
         ensures values { self.new.trail.values ≡ slice_set self.old.trail.values (literal / 2) (1 + literal % 2) }
     {
         let place = self.trail.len() as u32;
-        self.causes.note(literal / 2, reason, level, place);
+        self.causes
+            .note((literal / 2) as usize, reason, level, place);
         self.trail.imply(literal);
     }
 
@@ -179,7 +173,8 @@ impl<'a> Search<'a> {
         ensures len { self.new.trail.len ≡ self.old.trail.len + 1 }
     {
         let place = self.trail.len() as u32;
-        self.causes.note(literal / 2, None, place + 1, place);
+        self.causes
+            .note((literal / 2) as usize, None, place + 1, place);
         self.trail.decide(literal);
     }
 
@@ -241,7 +236,7 @@ impl<'a> Search<'a> {
         let level = self.level_before();
         if let Some(last) = self.trail.len().checked_sub(1) {
             let variable = self.trail.literal(last) / 2;
-            self.causes.note(variable, reason, level, last as u32);
+            self.causes.note(variable as usize, reason, level, last as u32);
         }
         level
     }
@@ -330,12 +325,10 @@ impl<'a> Search<'a> {
         let mut back = None;
         let mut node = self.watches.head(falsified);
         for _ in 0..self.watches.nodes() {
-            if node == 0 {
-                return None;
-            }
-            let clause = (node - 1) / 2;
+            let place = node.checked_sub(1)?;
+            let clause = place / 2;
             let at = 4 * clause as usize;
-            let side = ((node - 1) % 2) as usize;
+            let side = (place % 2) as usize;
             let next = self.watches.link(at + side);
             let other = self.watches.link(at + 3 - side);
             match self.examine(clause, other, level) {

@@ -34,27 +34,13 @@ impl Watches<'_> {
         self.links.get(at).copied().unwrap_or(0)
     }
 
-    fn set_head(&mut self, literal: u32, node: u32)
-        ensures heads { self.new.heads.now ≡ slice_set self.old.heads.now literal node }
-        ensures links { self.new.links.now ≡ self.old.links.now }
-    {
-        set(self.heads, literal as usize, node);
-    }
-
-    fn set_link(&mut self, at: usize, node: u32)
-        ensures heads { self.new.heads.now ≡ self.old.heads.now }
-        ensures links { self.new.links.now ≡ slice_set self.old.links.now at node }
-    {
-        set(self.links, at, node);
-    }
-
     // Puts a node first into the chain of a literal.
     fn watch(&mut self, at: usize, literal: u32, node: u32)
         ensures { ChainedFirst self.old self.new at literal node }
     {
         let rest = self.head(literal);
-        self.set_link(at, rest);
-        self.set_head(literal, node);
+        set(self.links, at, rest);
+        set(self.heads, literal as usize, node);
     }
 
     // Takes a node out of the chain of one literal, behind the link at back or first where there is
@@ -71,10 +57,10 @@ impl Watches<'_> {
         requires { at < 17179869184 }
     {
         match back {
-            None => self.set_head(literal, next),
-            Some(link) => self.set_link(link, next),
+            None => set(self.heads, literal as usize, next),
+            Some(link) => set(self.links, link, next),
         }
-        self.set_link(at + 2, other);
+        set(self.links, at + 2, other);
         self.watch(at, other, node);
     }
 
@@ -97,8 +83,8 @@ impl Watches<'_> {
     {
         let at = 4 * clause as usize;
         let node = clause.saturating_mul(2);
-        self.set_link(at + 2, one);
-        self.set_link(at + 3, other);
+        set(self.links, at + 2, one);
+        set(self.links, at + 3, other);
         self.watch(at, one, node.saturating_add(1));
         self.watch(at + 1, other, node.saturating_add(2));
     }

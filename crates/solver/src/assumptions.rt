@@ -56,15 +56,15 @@ fn next_literal(learner: &mut Learner, guide: Guide) -> Option<u32>
     ensures search { learner.new.search ≡ learner.old.search }
     ensures open { LiteralSays (variables_of learner.new.search.trail) learner.new.search.trail.values result }
 {
+    learner.search.keeps();
     let trail = learner.search.trail();
-    trail.keeps();
     if let Guide::Sequence = guide {
         if let Some(variable) = open_variable(trail, learner.decided.min(trail.variables())) {
             return Some(2 * variable + 1);
         }
     }
     let variable = next_variable(trail, &mut learner.order)?;
-    if learner.phases[variable as usize] == 1 {
+    if learner.phases.get(variable as usize) == Some(&1) {
         Some(2 * variable)
     } else {
         Some(2 * variable + 1)

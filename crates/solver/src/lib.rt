@@ -140,7 +140,7 @@ fn seek(
             start = learner.search().trail().len().saturating_sub(1);
             continue;
         }
-        let full = pace.is_full(learner.search().learned(), learner.counters.unkept);
+        let full = pace.is_full(learner.search().learned().len(), learner.counters.unkept);
         if (full | pace.is_over()) && restarts > 0 {
             restarts -= 1;
             start = start_again(learner, pace, full);
@@ -159,6 +159,8 @@ fn seek(
                 continue;
             }
             Step::Decided => {
+                learner.search.keeps();
+                learner.search.trail().keeps();
                 start = learner.search().trail().len().saturating_sub(1);
                 level = learner.search().trail().len() as u32;
                 continue;
@@ -230,7 +232,7 @@ impl Solver<'_> {
         values.copy_from_slice(trail.values());
     }
 
-    // Whether the clauses have a model; the values are one then.
+    // Whether the clauses have a model; the values are one then. Nothing that is learned is forgotten.
     pub fn solve(&mut self) -> bool
         ensures clauses { SameClauses self.old.learner.search.trail self.new.learner.search.trail }
         ensures model { result ≡ true → Models (formula_of self.new.learner.search.trail) (assignment self.new.learner.search.trail.values) }
@@ -239,6 +241,7 @@ impl Solver<'_> {
         if self.begin().is_err() {
             return false;
         }
-        self.solve_under(&[], 0, Guide::Activity)
+        let mut pace = Pace::endless();
+        seek(&mut self.learner, &mut pace, &[], 0, Guide::Activity)
     }
 }

@@ -47,6 +47,16 @@ impl Pace {
         }
     }
 
+    // Forgets nothing.
+    pub(crate) fn endless() -> Pace
+        ensures { result.start ≡ 0 }
+    {
+        let mut pace = Pace::new(0);
+        pace.most = usize::MAX;
+        pace.unkept = u64::MAX;
+        pace
+    }
+
     // A conflict has passed.
     pub(crate) fn note_conflict(&mut self) {
         self.conflicts = self.conflicts.saturating_add(1);

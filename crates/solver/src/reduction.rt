@@ -49,7 +49,7 @@ fn watch_all(search: &mut Search)
     ensures { search.new ≡ search.old }
 {
     let base = search.trail().problem().len();
-    let count = base.saturating_add(search.learned());
+    let count = base.saturating_add(search.learned().len());
     for number in 0..count.min(0x7fff_ffff) {
         watch(search, number as u32);
     }

@@ -1,5 +1,5 @@
 // Which variable is to be decided next; and when all have a value, whether these are a model.
-ghost use Rattle.std.specs.Prelude.{◌≡◌, ◌≤◌, true, false};
+ghost use Rattle.std.specs.Prelude.{◌≡◌, ◌<◌, ◌≤◌, true, false};
 ghost use Rattle.clauses.specs.Formulas.{Models, Satisfies};
 ghost use Rattle.clauses.specs.Stores.{Known};
 ghost use Rattle.trail.specs.Views.{variables_of, formula_of};
@@ -12,7 +12,8 @@ use trail::Trail;
 
 // The first of the first so many variables that has no value.
 pub fn open_variable(trail: &Trail, most: usize) -> Option<u32>
-    requires { most ≤ variables_of trail.now }
+    requires within { most ≤ variables_of trail.now }
+    requires few { most < 2147483648 }
     ensures { OpenSays most trail.now.values result }
 {
     trail.keeps();
@@ -24,13 +25,12 @@ pub fn open_variable(trail: &Trail, most: usize) -> Option<u32>
 
 // The first variable without a value by an order, or any.
 pub fn next_variable(trail: &Trail, order: &mut Order) -> Option<u32>
-    requires { order.old.variables ≡ variables_of trail.now }
-    ensures variables { order.new.variables ≡ order.old.variables }
-    ensures open { OpenSays (variables_of trail.now) trail.now.values result }
+    requires { variables_of trail.now < 2147483648 }
+    ensures { OpenSays (variables_of trail.now) trail.now.values result }
 {
     trail.keeps();
     while let Some(variable) = order.pop() {
-        if trail.values()[variable as usize] == 0 {
+        if trail.values().get(variable as usize) == Some(&0) {
             return Some(variable);
         }
     }

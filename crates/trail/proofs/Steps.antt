@@ -26,7 +26,6 @@ good_same s t same good held =
     let u : t.units.variables ≡ s.units.variables = ap (λ x. x.variables) same.units in
     record {
       held = subst (λ (f : List (List ℕ)). Held f (variables_of t) t.values t.literals t.marks t.len) (sym (same_formula s t same)) (subst (λ (n : ℕ). Held (formula_of s) n t.values t.literals t.marks t.len) (sym v) held);
-      few = omega (arith, good.few);
       units = u ∙ good.units ∙ sym v;
     }
 
@@ -126,7 +125,6 @@ good_added s t g good problem units same values literals marks len =
           (subst (λ (x : List ℕ). Held (formula_of s ++ g) (variables_of s) s.values x t.marks t.len) (sym literals)
           (subst (λ (x : List ℕ). Held (formula_of s ++ g) (variables_of s) s.values s.literals x t.len) (sym marks)
           (subst (λ (x : ℕ). Held (formula_of s ++ g) (variables_of s) s.values s.literals s.marks x) (sym len) more)))));
-      few = omega (arith, good.few);
       units = same ∙ good.units ∙ sym v;
     }
 

@@ -61,10 +61,9 @@ unfoldable pub number : ℕ → List ℕ → ℕ → ℕ → ℕ
 number budget marks n zero = budget
 number budget marks n (suc k) = 3 * number budget marks n k + digit marks n k
 
--- the same of the code's trail, of at most 2³¹ - 2 variables
+-- the same of the code's trail
 pub record Good (t : TrailView) : Type 0 where
   pub held : Held (formula_of t) (variables_of t) t.values t.literals t.marks t.len
-  pub few : variables_of t < 2147483647
   pub units : t.units.variables ≡ variables_of t
 
 abbrev pub Jammed : TrailView → Type 0

@@ -45,7 +45,7 @@ impl<'a> Model for Trail<'a> {
 
 // The place of the first decision when a literal comes with a mark; before, it was root.
 fn root_after(root: usize, len: usize, mark: u32) -> usize
-    requires { len < 2147483647 }
+    requires { len < 9223372036854775808 }
     ensures { RootAfter root len mark result }
 {
     if root == len && mark != DECIDED {
@@ -68,11 +68,10 @@ impl<'a> Trail<'a> {
         literals: &'a mut [u32],
         marks: &'a mut [u32],
     ) -> Trail<'a>
-        requires few { problem.variables < 2147483647 }
         requires units { units.variables ≡ problem.variables }
         requires values_long { length values.old ≡ problem.variables }
-        requires literals_long { length literals.old ≡ problem.variables }
-        requires marks_long { length marks.old ≡ problem.variables }
+        requires literals_long { problem.variables ≤ length literals.old }
+        requires marks_long { problem.variables ≤ length marks.old }
         ensures problem { result.problem ≡ problem.entry }
         ensures units { result.units ≡ units.entry }
         ensures len { result.len ≡ 0 }
@@ -99,8 +98,7 @@ impl Trail<'_> {
     }
 
     pub fn variables(&self) -> usize
-        ensures is { result ≡ variables_of self.now }
-        ensures few { result < 2147483647 }
+        ensures { result ≡ variables_of self.now }
     {
         self.values.len()
     }
@@ -134,7 +132,6 @@ impl Trail<'_> {
     pub fn len(&self) -> usize
         ensures is { result ≡ self.now.len }
         ensures few { result ≤ variables_of self.now }
-        ensures small { result < 2147483647 }
     {
         self.len
     }

@@ -11,7 +11,7 @@ loop-variable-preserved c =
     let one = take_more met index 0 c.loop-variable-test.true in
     let inside : c.loop-variable.size < length c.loop-variable.buffer = omega arith in
     let stored = take_more_set c.loop-variable.buffer c.loop-variable.size c.false_literal.result inside in
-    record { room = omega (arith, length-set c.loop-variable.buffer c.loop-variable.size c.false_literal.result); gathered = rw (one, stored) (gathered_more _ _ _ _ _ (get_or met index 0) i.gathered c.false_literal.result c.false_literal.ensures (met_small _ _ _ _ index c.requires c.loop-variable-test.true)) }
+    record { room = omega (arith, length-set c.loop-variable.buffer c.loop-variable.size c.false_literal.result); gathered = rw (one, stored) (gathered_more _ _ _ _ _ (get_or met index 0) i.gathered c.false_literal.result c.false_literal.ensures (met_small _ _ _ _ index c.requires.noted c.loop-variable-test.true)) }
 
 pub loop-variable-preserved-then-seen-variable-ne1 : goal.loop-variable-preserved-then-seen-variable-ne1
 loop-variable-preserved-then-seen-variable-ne1 c =

@@ -1,5 +1,6 @@
-use Rattle.std.proofs.Common.{ℕ, ◌+◌, ◌-◌, List, length, refl, arith, rules}
+use Rattle.std.proofs.Common.{ℕ, ◌+◌, ◌-◌, ◌*◌, ◌∙◌, List, length, refl, arith, rules}
 use Rattle.std.proofs.Math.ListN.{length-set}
+use Rattle.std.proofs.lemmas.List.{get_or-set_other}
 use borrow.Rule.Slice.PartMut.{put_mid}
 use Rattle.clauses.specs.Stores.{Known}
 use Rattle.clauses.proofs.Literals.{formula_long}
@@ -29,4 +30,4 @@ pub returns-then-self : goal.returns-then-self
 returns-then-self c = rw (← c.self.view_is) ((λ f. let s = f.spans in omega (arith, formula_long c.self.inside.spans.now c.self.inside.words.now c.self.inside.count)), refl)
 
 pub returns : goal.returns
-returns c = rw (← c.self.view_is) (record { known = known c; fits = record { spans = let l = formula_long c.self.inside.spans.now c.self.inside.words.now c.self.inside.count in omega arith; words = omega arith; small = omega arith }; formula = added_formula _ (xs c) _ _ _ _ _ c.self.invariant.stored (known c) (omega arith) (omega arith) (omega arith) (copied c); used = refl; memory = record { variables = refl; spans_size = simp length-set refl; words_size = (copied c).long } })
+returns c = rw (← c.self.view_is) (record { known = known c; fits = record { spans = let l = formula_long c.self.inside.spans.now c.self.inside.words.now c.self.inside.count in omega arith; words = omega arith; small = omega arith }; formula = added_formula _ (xs c) _ _ _ _ _ c.self.invariant.stored (known c) (omega arith) (omega arith) (omega arith) (copied c); used = refl; memory = record { variables = refl; spans_named = refl; words_named = refl; spans_size = simp length-set refl; words_size = (copied c).long }; spans = λ p h. let n : ℕ = 2 * c.self.inside.count in let l = formula_long c.self.inside.spans.now c.self.inside.words.now c.self.inside.count in get_or-set_other _ (n + 1) p _ 0 (omega arith) ∙ get_or-set_other _ n p _ 0 (omega arith); words = (copied c).before })

@@ -1,5 +1,5 @@
 -- A store that grows, step by step.
-use Rattle.std.proofs.Common.{◌≡◌, ℕ, ◌+◌, ◌*◌, ◌<◌, List, [], ◌∷◌, ◌++◌, length, refl, sym, ap, ◌∙◌, append_assoc, append-nil, arith}
+use Rattle.std.proofs.Common.{◌≡◌, ℕ, ◌+◌, List, [], ◌∷◌, ◌++◌, length, refl, sym, ap, ◌∙◌, subst, append_assoc, append-nil, arith}
 use Rattle.std.proofs.Math.ListN.{length-append}
 use Rattle.clauses.specs.Views.{StoreView}
 use Rattle.clauses.specs.Stores.{SameMemory, Added, Grown}
@@ -19,6 +19,9 @@ memory_on s t u a b =
 
 pub grown_none : (s : StoreView) → Grown s s
 grown_none s = record { memory = memory_same s; spans = λ p h. refl; words = λ p h. refl; used = omega arith; more = []; formula = sym (append-nil s.formula) }
+
+pub grown_same : (s t : StoreView) → t ≡ s → Grown s t
+grown_same s t e = subst (Grown s) (sym e) (grown_none s)
 
 pub grown_by : (c : List ℕ) (s t : StoreView) → Added c s t → Grown s t
 grown_by c s t a = record { memory = a.memory; spans = a.spans; words = a.words; used = omega (arith, a.used); more = c ∷ []; formula = a.formula }

@@ -1,7 +1,5 @@
 -- What a learner shows and keeps.
-use Rattle.std.specs.Prelude.{◌≡◌, length}
 use Rattle.analysis.specs.Marking.{Fits}
-use Rattle.propagation.specs.Views.{variables_of}
 use Rattle.conflicts.specs.declared.Learner.TheInside.{Inside}
 use Rattle.conflicts.specs.Views.{LearnerView}
 

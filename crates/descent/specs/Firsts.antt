@@ -40,8 +40,8 @@ literal_for α x = cond (α x) (2 * x) (2 * x + 1)
 
 -- so many clauses of one literal more fit
 pub record Room (s : StoreView) (more : ℕ) : Type 0 where
-  pub spans : 2 * (length s.formula + more) ≤ s.spans_size
-  pub words : s.used + more ≤ s.words_size
+  pub spans : 2 * (length s.formula + more) ≤ length s.spans.now
+  pub words : s.used + more ≤ length s.words.now
   pub small : s.used + more < 2 ^ 32
 
 -- the first model, with at most as many questions as variables of the range; or there is none, and the values are as they were

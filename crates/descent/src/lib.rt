@@ -6,6 +6,7 @@
 
 ghost use Rattle.std.specs.Prelude.{◌≡◌, ◌+◌, ◌-◌, ◌<◌, ◌≤◌, length};
 ghost use Rattle.clauses.specs.Formulas.{Models};
+ghost use Rattle.clauses.specs.Stores.{Grown};
 ghost use Rattle.trail.specs.Views.{variables_of, formula_of};
 ghost use Rattle.trail.specs.Trails.{SameClauses};
 ghost use Rattle.solver.specs.Values.{assignment};
@@ -29,13 +30,13 @@ fn literal_at(values: &[u32], place: usize) -> u32
 // Asks for a model that is false at a variable where the one that is held is true; it is held then.
 // How many questions that took.
 fn lower(solver: &mut Solver, place: usize, values: &mut [u32]) -> usize
-    requires size { length values.old ≡ variables_of solver.old.learner.search.trail }
-    requires place { place < variables_of solver.old.learner.search.trail }
-    requires few { variables_of solver.old.learner.search.trail < 2147483647 }
-    requires model { Models (formula_of solver.old.learner.search.trail) (assignment values.old) }
-    ensures clauses { SameClauses solver.old.learner.search.trail solver.new.learner.search.trail }
-    ensures model { Models (formula_of solver.new.learner.search.trail) (assignment values.new) }
-    ensures lowest { Lowest (formula_of solver.new.learner.search.trail) (assignment values.new) place }
+    requires size { length values.old ≡ variables_of solver.old }
+    requires place { place < variables_of solver.old }
+    requires few { variables_of solver.old < 2147483647 }
+    requires model { Models (formula_of solver.old) (assignment values.old) }
+    ensures clauses { SameClauses solver.old solver.new }
+    ensures model { Models (formula_of solver.new) (assignment values.new) }
+    ensures lowest { Lowest (formula_of solver.new) (assignment values.new) place }
     ensures few { result ≤ 1 }
 {
     if values[place] != 1 {
@@ -51,14 +52,16 @@ fn lower(solver: &mut Solver, place: usize, values: &mut [u32]) -> usize
 // From a model that is lowest at the first variable of a range: settles one variable after the other.
 // How many questions that took.
 fn descend(solver: &mut Solver, low: usize, high: usize, values: &mut [u32]) -> usize
-    requires size { length values.old ≡ variables_of solver.old.learner.search.trail }
-    requires few { variables_of solver.old.learner.search.trail < 2147483647 }
-    requires range { (low < high) × (high ≤ variables_of solver.old.learner.search.trail) }
-    requires units { Room solver.old.learner.search.trail.units (high - low) }
-    requires model { Models (formula_of solver.old.learner.search.trail) (assignment values.old) }
-    requires lowest { Lowest (formula_of solver.old.learner.search.trail) (assignment values.old) low }
-    ensures first { FirstModel (formula_of solver.old.learner.search.trail) (assignment values.new) low high }
+    requires size { length values.old ≡ variables_of solver.old }
+    requires few { variables_of solver.old < 2147483647 }
+    requires range { (low < high) × (high ≤ variables_of solver.old) }
+    requires units { Room solver.old.units (high - low) }
+    requires model { Models (formula_of solver.old) (assignment values.old) }
+    requires lowest { Lowest (formula_of solver.old) (assignment values.old) low }
+    ensures first { FirstModel (formula_of solver.old) (assignment values.new) low high }
     ensures questions { result + 1 ≤ high - low }
+    ensures problem { solver.new.problem ≡ solver.old.problem }
+    ensures grown { Grown solver.old.units solver.new.units }
 {
     let _ = solver.fix(literal_at(values, low));
     let mut questions = 0;
@@ -77,11 +80,13 @@ pub fn first_model(
     high: usize,
     values: &mut [u32],
 ) -> Option<usize>
-    requires size { length values.old ≡ variables_of solver.old.learner.search.trail }
-    requires few { variables_of solver.old.learner.search.trail < 2147483647 }
-    requires range { high ≤ variables_of solver.old.learner.search.trail }
-    requires units { Room solver.old.learner.search.trail.units (high - low) }
-    ensures says { FirstSays (formula_of solver.old.learner.search.trail) low high values.old values.new result }
+    requires size { length values.old ≡ variables_of solver.old }
+    requires few { variables_of solver.old < 2147483647 }
+    requires range { high ≤ variables_of solver.old }
+    requires units { Room solver.old.units (high - low) }
+    ensures says { FirstSays (formula_of solver.old) low high values.old values.new result }
+    ensures problem { solver.new.problem ≡ solver.old.problem }
+    ensures grown { Grown solver.old.units solver.new.units }
 {
     if low >= high {
         if !solver.solve_under(&[], 0, Guide::Activity) {

@@ -1,7 +1,7 @@
 -- What a look at a clause says of models.
-use Rattle.std.proofs.Common.{◌≡◌, ℕ, ◌-◌, ◌+◌, ◌%◌, ◌<◌, ◌≤◌, true, ◌⊎◌, List, length, get_or, sym, ap, ◌∙◌, subst, inl, inr, arith}
+use Rattle.std.proofs.Common.{◌≡◌, ℕ, ◌-◌, ◌+◌, ◌%◌, ◌≤◌, true, ◌⊎◌, List, get_or, sym, ap, ◌∙◌, inl, inr, arith}
 use Rattle.std.proofs.lemmas.Bool.{cases_eq, both_ways, not-true}
-use Rattle.clauses.specs.Formulas.{Assignment, value, negation, Satisfies, Models}
+use Rattle.clauses.specs.Formulas.{Assignment, value, negation, Models}
 use Rattle.clauses.specs.Stores.{Follows}
 use Rattle.clauses.proofs.Literals.{value_negation}
 use Rattle.trail.specs.Trails.{IsFalseUnder, Decided, Stuck, OnTrail, Held}

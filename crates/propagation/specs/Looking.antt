@@ -1,6 +1,6 @@
 -- What a look at a clause says under the values of a trail.
-use Rattle.std.specs.Prelude.{◌≡◌, ℕ, ◌+◌, ◌/◌, ◌<◌, ◌⊎◌, true, List, length, Some, None, Option, ◌≢◌, slice_index, slice_set}
-use Rattle.clauses.specs.Formulas.{Assignment, value, Models}
+use Rattle.std.specs.Prelude.{◌≡◌, ℕ, ◌+◌, ◌/◌, ◌<◌, true, List, length, Some, None, Option, ◌≢◌, slice_index, slice_set}
+use Rattle.clauses.specs.Formulas.{Assignment, value}
 use Rattle.trail.specs.Trails.{IsFalseUnder, Jammed, Forced}
 use Rattle.propagation.specs.Views.{CausesView, SearchView, variables_of, numbers_of}
 use Rattle.propagation.specs.declared.search.Look.{Look}

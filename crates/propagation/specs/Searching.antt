@@ -1,8 +1,8 @@
 -- What every search keeps, and what its steps leave.
 use Rattle.std.specs.Prelude.{◌≡◌, ℕ, ◌<◌, List, length}
 use Rattle.clauses.specs.Stores.{Sound, Known, Follows}
-use Rattle.trail.specs.Trails.{SameClauses, Falls, FallsOrStays, Later, Jammed}
-use Rattle.propagation.specs.Views.{CausesView, SearchView, variables_of, formula_of, numbers_of}
+use Rattle.trail.specs.Trails.{SameClauses, FallsOrStays, Later}
+use Rattle.propagation.specs.Views.{SearchView, variables_of, formula_of, numbers_of}
 
 -- what was learned follows, and there is a cause for each variable
 pub record Ready (s : SearchView) : Type 0 where

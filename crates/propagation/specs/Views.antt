@@ -1,5 +1,5 @@
 -- What callers see of causes and of a search.
-use Rattle.std.specs.Prelude.{ℕ, ◌+◌, List, ◌++◌, length}
+use Rattle.std.specs.Prelude.{ℕ, ◌+◌, List, length}
 use Rattle.clauses.specs.Views.{StoreView}
 use Rattle.trail.specs.Views.{TrailView, variables_of as variables_on, formula_of as formula_on}
 

@@ -236,7 +236,8 @@ impl<'a> Search<'a> {
         let level = self.level_before();
         if let Some(last) = self.trail.len().checked_sub(1) {
             let variable = self.trail.literal(last) / 2;
-            self.causes.note(variable as usize, reason, level, last as u32);
+            self.causes
+                .note(variable as usize, reason, level, last as u32);
         }
         level
     }

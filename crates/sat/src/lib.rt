@@ -186,8 +186,8 @@ fn first_of(
 
 // The first model of clauses by the variables of a range, in their sequence, false first. The first so
 // many spans and words are the clauses, which stay as they are; there must be room behind them for a
-// clause of one literal more for each variable of the range, which is written there. How many questions
-// that took; nothing where there is no model.
+// clause of one literal more for each variable of the range, and what stands there afterwards is not
+// said. How many questions that took; nothing where there is no model.
 pub fn first(
     spans: &mut [u32],
     words: &mut [u32],

@@ -16,7 +16,7 @@ use solver::{Guide, Pace, Solver};
 use trail::Trail;
 
 // A search over clauses, on lent work: the trail, its causes, who watches which clause, and what is
-// learned. The first so many words of the work are left for others.
+// learned.
 fn search_on<'a>(
     problem: Clauses<'a>,
     units: Store<'a>,
@@ -50,18 +50,19 @@ fn search_on<'a>(
     )
 }
 
-// A solver on lent work.
+// A solver on lent work, which goes on to count.
 fn solver_on<'a>(
     problem: Clauses<'a>,
     units: Store<'a>,
     decided: usize,
     work: &'a mut [u32],
+    counters: Counters,
 ) -> Solver<'a>
     requires few { problem.variables < 2147483647 }
     requires units { units.variables ≡ problem.variables }
     requires room { 15 * problem.variables + 4 * length problem.formula ≤ length work.old }
-    ensures problem { result.learner.search.trail.problem ≡ problem.entry }
-    ensures units { result.learner.search.trail.units ≡ units.entry }
+    ensures problem { result.problem ≡ problem.entry }
+    ensures units { result.units ≡ units.entry }
 {
     let variables = problem.variables();
     let base = problem.len();
@@ -84,7 +85,7 @@ fn solver_on<'a>(
         order: Order::new(scores, heap, places, decided),
         phases,
         decided,
-        counters: Counters::default(),
+        counters,
     };
     Solver {
         learner,
@@ -113,7 +114,7 @@ pub fn ask_stored(
 {
     let variables = problem.variables();
     let units = Store::new(variables, &mut [], &mut []);
-    let mut solver = solver_on(problem, units, decided, work);
+    let mut solver = solver_on(problem, units, decided, work, *counters);
     let found = solver.begin().is_ok()
         && solver.solve_under(assumptions, assumptions.len(), Guide::Activity);
     if found {
@@ -145,7 +146,7 @@ pub fn first_stored(
     requires room { 15 * problem.variables + 4 * length problem.formula ≤ length work.old }
     ensures says { FirstSays problem.entry.formula low high values.old values.new result }
 {
-    let mut solver = solver_on(problem, units, decided, work);
+    let mut solver = solver_on(problem, units, decided, work, *counters);
     let questions = match solver.begin() {
         Ok(()) => first_model(&mut solver, low, high, values),
         Err(_) => None,

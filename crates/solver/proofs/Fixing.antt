@@ -1,5 +1,5 @@
 -- What holds of clauses when one of a single literal joins them.
-use Rattle.std.proofs.Common.{◌≡◌, ℕ, ◌+◌, ◌-◌, ◌/◌, ◌<◌, ◌≤◌, true, List, [], ◌∷◌, ◌++◌, length, get_or, append_assoc, ⊎_elim, sym, ap, ◌∙◌, subst, arith}
+use Rattle.std.proofs.Common.{◌≡◌, ℕ, ◌/◌, ◌<◌, true, List, [], ◌∷◌, ◌++◌, length, get_or, append_assoc, ⊎_elim, sym, ap, ◌∙◌, subst, arith}
 use Rattle.std.specs.Prelude.{Ok, Err, Result}
 use Rattle.std.proofs.Math.ListN.{get_or-append, length-append}
 use Rattle.std.proofs.Math.Seq.{get_or-append_seam}
@@ -10,7 +10,7 @@ use Rattle.clauses.specs.Formulas.{Assignment, value, Satisfies, Models}
 use Rattle.clauses.specs.Stores.{Known, Fits, Added, AddedIf, clause_at}
 use Rattle.clauses.specs.Views.{StoreView}
 use Rattle.trail.specs.Views.{TrailView, formula_of, variables_of}
-use Rattle.trail.specs.Trails.{IsFalseUnder, Held, Good, Rooted, NoneModels}
+use Rattle.trail.specs.Trails.{IsFalseUnder, Good, Rooted, NoneModels}
 use Rattle.trail.proofs.Assuming.{assumed_none, refuted}
 use Rattle.trail.proofs.Steps.{models_first}
 use Rattle.solver.proofs.Checks.{own_second}

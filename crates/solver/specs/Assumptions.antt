@@ -2,7 +2,7 @@
 use Rattle.std.specs.Prelude.{◌≡◌, ℕ, ◌/◌, ◌<◌, true, ◌⊎◌, List, length, Some, None, Option, slice_index, slice_index_or}
 use Rattle.clauses.specs.Formulas.{Assignment, value, Models}
 use Rattle.trail.specs.Views.{TrailView, variables_of, formula_of}
-use Rattle.trail.specs.Trails.{IsTrueUnder, IsFalseUnder, OnTrail, SameClauses, Falls, FallsOrStays, AssumedT}
+use Rattle.trail.specs.Trails.{IsTrueUnder, IsFalseUnder, OnTrail, SameClauses, Falls, AssumedT}
 use Rattle.solver.specs.Values.{Full}
 use Rattle.solver.specs.declared.assumptions.Wanted.{Wanted}
 use Rattle.solver.specs.declared.assumptions.Wanted.TheVariants.{Refuted, Open, Settled}

@@ -2,3 +2,5 @@
 pub mod Values
 -- Assumptions.
 pub mod Assumptions
+-- What a solver shows.
+pub mod Keeping

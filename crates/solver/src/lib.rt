@@ -13,6 +13,7 @@ ghost use Rattle.solver.specs.Assumptions.{KnownAll, HoldsAll, NoneWith};
 
 use conflicts::{Learner, flip_last};
 use propagation::{Outcome, Search};
+use std::marker::Model;
 use trail::NoModel;
 
 // Which variable is next, and whether the values are a model.
@@ -35,6 +36,16 @@ use values::is_model;
 pub struct Solver<'a> {
     pub learner: Learner<'a>,
     pub pace: Pace,
+}
+
+impl<'a> Model for Solver<'a> {
+    ghost use Rattle.trail.specs.Views.{TrailView};
+
+    ghost Value = { TrailView };
+
+    ghost use Rattle.solver.specs.Keeping.{solver_view};
+
+    ghost view = { solver_view };
 }
 
 // Begins anew, and forgets where memory is full.
@@ -184,8 +195,8 @@ impl Solver<'_> {
     // Looks at the clauses of the problem: what they imply without a decision is put on the trail, and
     // they are watched.
     pub fn begin(&mut self) -> Result<(), NoModel>
-        ensures clauses { SameClauses self.old.learner.search.trail self.new.learner.search.trail }
-        ensures none { OnErr result (NoneModels (formula_of self.old.learner.search.trail)) }
+        ensures clauses { SameClauses self.old self.new }
+        ensures none { OnErr result (NoneModels (formula_of self.old)) }
     {
         let learner = &mut self.learner;
         enter_all(&mut learner.search)
@@ -193,11 +204,11 @@ impl Solver<'_> {
 
     // Fixes a literal for good: the clause of it alone joins the clauses, and it holds without a decision.
     pub fn fix(&mut self, literal: u32) -> Result<(), NoModel>
-        requires known { literal / 2 < variables_of self.old.learner.search.trail }
-        requires fits { Fits self.old.learner.search.trail.units 1 }
-        ensures added { Added (literal ∷ []) self.old.learner.search.trail.units self.new.learner.search.trail.units }
-        ensures problem { self.new.learner.search.trail.problem ≡ self.old.learner.search.trail.problem }
-        ensures none { OnErr result (NoneModels (formula_of self.new.learner.search.trail)) }
+        requires known { literal / 2 < variables_of self.old }
+        requires fits { Fits self.old.units 1 }
+        ensures added { Added (literal ∷ []) self.old.units self.new.units }
+        ensures problem { self.new.problem ≡ self.old.problem }
+        ensures none { OnErr result (NoneModels (formula_of self.new)) }
     {
         let learner = &mut self.learner;
         let root = learner.begin_anew();
@@ -210,21 +221,21 @@ impl Solver<'_> {
     // one then. The other assumptions are wishes: they are true in that model if they are all true in
     // some.
     pub fn solve_under(&mut self, assumptions: &[u32], firm: usize, guide: Guide) -> bool
-        requires known { KnownAll (variables_of self.old.learner.search.trail) assumptions.now }
+        requires known { KnownAll (variables_of self.old) assumptions.now }
         requires firm { firm ≤ length assumptions.now }
-        ensures clauses { SameClauses self.old.learner.search.trail self.new.learner.search.trail }
-        ensures model { result ≡ true → Models (formula_of self.new.learner.search.trail) (assignment self.new.learner.search.trail.values) }
-        ensures holds { result ≡ true → HoldsAll (assignment self.new.learner.search.trail.values) assumptions.now firm }
-        ensures wished { result ≡ true → HoldsAll (assignment self.new.learner.search.trail.values) assumptions.now (length assumptions.now) ⊎ NoneWith (formula_of self.new.learner.search.trail) assumptions.now (length assumptions.now) }
-        ensures none { result ≡ false → NoneWith (formula_of self.new.learner.search.trail) assumptions.now firm }
+        ensures clauses { SameClauses self.old self.new }
+        ensures model { result ≡ true → Models (formula_of self.new) (assignment self.new.values) }
+        ensures holds { result ≡ true → HoldsAll (assignment self.new.values) assumptions.now firm }
+        ensures wished { result ≡ true → HoldsAll (assignment self.new.values) assumptions.now (length assumptions.now) ⊎ NoneWith (formula_of self.new) assumptions.now (length assumptions.now) }
+        ensures none { result ≡ false → NoneWith (formula_of self.new) assumptions.now firm }
     {
         seek(&mut self.learner, &mut self.pace, assumptions, firm, guide)
     }
 
     // Writes the values of the trail.
     pub fn hold(&self, values: &mut [u32])
-        requires { length values.old ≡ variables_of self.now.learner.search.trail }
-        ensures { values.new ≡ self.now.learner.search.trail.values }
+        requires { length values.old ≡ variables_of self.now }
+        ensures { values.new ≡ self.now.values }
     {
         let learner = &self.learner;
         let trail = learner.search.trail();
@@ -234,9 +245,9 @@ impl Solver<'_> {
 
     // Whether the clauses have a model; the values are one then. Nothing that is learned is forgotten.
     pub fn solve(&mut self) -> bool
-        ensures clauses { SameClauses self.old.learner.search.trail self.new.learner.search.trail }
-        ensures model { result ≡ true → Models (formula_of self.new.learner.search.trail) (assignment self.new.learner.search.trail.values) }
-        ensures none { result ≡ false → NoneModels (formula_of self.new.learner.search.trail) }
+        ensures clauses { SameClauses self.old self.new }
+        ensures model { result ≡ true → Models (formula_of self.new) (assignment self.new.values) }
+        ensures none { result ≡ false → NoneModels (formula_of self.new) }
     {
         if self.begin().is_err() {
             return false;

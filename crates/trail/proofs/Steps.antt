@@ -1,5 +1,5 @@
 -- What the steps of the code's trail leave: it is good, falls, and has no decision that was none before.
-use Rattle.std.proofs.Common.{◌≡◌, ℕ, ◌+◌, ◌/◌, ◌%◌, ◌<◌, ◌≤◌, true, List, [], ◌∷◌, ◌++◌, length, get_or, set, sym, refl, ap, ◌∙◌, subst, ⊎_elim, arith}
+use Rattle.std.proofs.Common.{◌≡◌, ℕ, ◌+◌, ◌/◌, ◌<◌, ◌≤◌, true, List, [], ◌∷◌, ◌++◌, length, get_or, set, sym, refl, ap, ◌∙◌, subst, ⊎_elim, arith}
 use Rattle.std.proofs.lemmas.List.{get_or-set_same, get_or-set_other}
 use Rattle.std.proofs.lemmas.Bool.{cases_eq, cases_lt}
 use Rattle.std.proofs.Math.ListN.{get_or-append, length-append}
@@ -9,12 +9,11 @@ use Rattle.clauses.specs.declared.store.Unfit.{Unfit}
 use Rattle.clauses.specs.declared.store.Unfit.TheVariants.{Literal, Room}
 use Rattle.clauses.specs.Stores.{AddedIf, Follows, clause_at}
 use Rattle.clauses.specs.Formulas.{Assignment, value, negation, Satisfies, Models}
-use Rattle.clauses.proofs.Literals.{negation_half}
 use Rattle.trail.specs.Views.{TrailView, formula_of, variables_of}
-use Rattle.trail.specs.Trails.{Decided, Stuck, Held, Good, Jammed, Later, Falls, SameClauses, Rooted, RootAfter, NoneModels, Put, Popped, number}
+use Rattle.trail.specs.Trails.{Decided, Stuck, Held, Good, Jammed, Later, Falls, SameClauses, Rooted, RootAfter, Put, Popped, number}
 use Rattle.trail.proofs.Holding.{room_for_one, held_more, held_less, stuck_less, turned_round}
 use Rattle.trail.proofs.Numbers.{falls_by_one_more, falls_at_decision}
-use Rattle.trail.proofs.Assuming.{later_back, later_put}
+use Rattle.trail.proofs.Assuming.{later_put}
 
 pub same_formula : (s t : TrailView) → SameClauses s t → formula_of t ≡ formula_of s
 same_formula s t same = ap (λ p. p.formula ++ t.units.formula) same.problem ∙ ap (λ u. s.problem.formula ++ u.formula) same.units

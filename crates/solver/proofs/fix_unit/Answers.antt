@@ -1,7 +1,7 @@
-use Rattle.std.proofs.Common.{ℕ, ◌/◌, ◌<◌, List, [], ◌∷◌, get_or, sym, ap, ◌∙◌, subst, eqb-true, arith}
+use Rattle.std.proofs.Common.{ℕ, ◌/◌, List, [], ◌∷◌, get_or, sym, ap, ◌∙◌, subst, eqb-true}
 use Rattle.clauses.specs.Stores.{Added, Known}
 use Rattle.trail.specs.Trails.{Good}
-use Rattle.trail.specs.Views.{TrailView, variables_of}
+use Rattle.trail.specs.Views.{TrailView}
 use Rattle.solver.proofs.Fixing.{added, known_unit, new_true, never_fixed}
 use Rattle.solver.proofs.fix_unit.Goals as goal
 use Rattle.solver.proofs.fix_unit.Goals.{After-add}

@@ -1,4 +1,4 @@
-use Rattle.std.proofs.Common.{sym, ◌∙◌, arith, rules}
+use Rattle.std.proofs.Common.{sym, ◌∙◌, rules}
 use borrow.Author.Tests.{eqb-false}
 use Rattle.propagation.proofs.Seeing.{not_known}
 use Rattle.propagation.proofs.search.look_at.Goals as goal

@@ -1,4 +1,3 @@
-use Rattle.std.proofs.Common.{refl}
 use Rattle.trail.proofs.Assuming.{refuted}
 use Rattle.trail.proofs.Steps.{same_none}
 use Rattle.solver.proofs.assumptions.decide_on.Goals as goal

@@ -1,4 +1,4 @@
-use Rattle.std.proofs.Common.{◌≡◌, ℕ, ◌/◌, ◌<◌, refl, ap, ◌∙◌, arith, get_or}
+use Rattle.std.proofs.Common.{◌≡◌, ℕ, ◌/◌, ap, ◌∙◌, arith, get_or}
 use Rattle.clauses.proofs.Literals.{negation_half}
 use Rattle.trail.proofs.Steps.{falls_turned}
 use Rattle.trail.proofs.Trail.jump.Goals as goal

@@ -1,4 +1,4 @@
-use Rattle.std.proofs.Common.{ℕ, ◌-◌}
+use Rattle.std.proofs.Common.{◌-◌}
 use Rattle.propagation.specs.Views.{variables_of}
 use Rattle.propagation.specs.Searching.{Onward}
 use Rattle.propagation.proofs.search.Search.propagate.Given as goal

@@ -1,4 +1,4 @@
-use Rattle.std.proofs.Common.{◌∙◌, subst, arith}
+use Rattle.std.proofs.Common.{◌∙◌, subst}
 use Rattle.clauses.specs.Retaining.{SomeOf}
 use Rattle.clauses.proofs.Retaining.{sound_retained}
 use Rattle.propagation.specs.Views.{SearchView}

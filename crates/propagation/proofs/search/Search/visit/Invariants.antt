@@ -1,4 +1,4 @@
-use Rattle.std.proofs.Common.{ℕ, ◌<◌}
+use Rattle.std.proofs.Common.{◌<◌}
 use Rattle.propagation.specs.Searching.{Onward}
 use Rattle.propagation.proofs.search.Search.visit.Given as goal
 

@@ -8,6 +8,7 @@ use Rattle.clauses.specs.Formulas.{Assignment, value, negation, Satisfies, Model
 use Rattle.clauses.specs.Views.{StoreView}
 use Rattle.clauses.specs.Stores.{Known, AddedIf}
 use Rattle.clauses.proofs.Literals.{value_negation, negation_half}
+use Rattle.clauses.proofs.Growing.{memory_on}
 use Rattle.gates.specs.declared.circuit.Circuit.{Circuit}
 use Rattle.gates.specs.Words.{mix, output, claimed, Meets}
 use Rattle.gates.specs.Circuits.{GoesC}
@@ -70,7 +71,7 @@ module _ (s t : StoreView) (a k : ℕ) (P : Assignment → Type 0) (w : Writes s
   pub writes_then : (u : StoreView) (b l : ℕ) (Q R : Assignment → Type 0) → ((α : Assignment) → P α → Q α → R α) → ((α : Assignment) → R α → P α × Q α) → Writes t b l Q u → Writes s (a + b) (k + l) R u
   writes_then u b l Q R join split x =
       record {
-        memory = record { variables = x.memory.variables ∙ w.memory.variables; spans_size = x.memory.spans_size ∙ w.memory.spans_size; words_size = x.memory.words_size ∙ w.memory.words_size };
+        memory = memory_on _ _ _ w.memory x.memory;
         count = omega (arith, x.count, w.count);
         used = omega (arith, x.used, w.used);
         says = λ α m. (let p = x.says α m in let q = w.says α p.0 in (q.0, join α q.1 p.1));
@@ -228,7 +229,7 @@ circuit_written c s t u w none unused a b r d =
     all : (r : Result (Unit {0}) Unfit) → WritesIf u c.claimed (3 * c.claimed) (Meets c.claims.now c.claimed) w r → Writes s (1 + 4 * c.count) (1 + 11 * c.count) (GoesC c) u → WrittenIf c s w r
     all (Err e) d ab = refused_then s u _ _ _ ab c.claimed (3 * c.claimed) (clauses_of c) (literals_of c) (omega arith) (omega arith) e d
     all (Ok _) d ab = (
-      record { variables = d.memory.variables ∙ ab.memory.variables; spans_size = d.memory.spans_size ∙ ab.memory.spans_size; words_size = d.memory.words_size ∙ ab.memory.words_size },
+      memory_on _ _ _ ab.memory d.memory,
       record {
         count = let l = ap length none in omega (arith, d.count, ab.count);
         used = omega (arith, d.used, ab.used);

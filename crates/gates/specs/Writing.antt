@@ -24,8 +24,8 @@ pub record Writes (s : StoreView) (clauses literals : ℕ) (Q : Assignment → T
 
 -- there is room for so many
 pub record Room (s : StoreView) (clauses literals : ℕ) : Type 0 where
-  pub spans : 2 * (length s.formula + clauses) ≤ s.spans_size
-  pub words : s.used + literals ≤ s.words_size
+  pub spans : 2 * (length s.formula + clauses) ≤ length s.spans.now
+  pub words : s.used + literals ≤ length s.words.now
   pub small : s.used + literals < 2 ^ 32
 
 -- refused only for want of room for all; the store may have some of them

@@ -2,9 +2,9 @@
 // it is what falls: no step but one from a counted budget makes it larger as a number in base 3.
 #![tactic(auto)]
 
-ghost use Rattle.std.specs.Prelude.{◌≡◌, ℕ, ◌+◌, ◌-◌, ◌/◌, ◌%◌, ◌<◌, ◌≤◌, true, [], ◌∷◌, length, OnOk, OnErr, take, ◌==◌, slice_index, slice_set};
+ghost use Rattle.std.specs.Prelude.{◌≡◌, ℕ, ◌+◌, ◌-◌, ◌/◌, ◌%◌, ◌<◌, ◌≤◌, true, [], ◌∷◌, length, OnOk, OnErr, ◌==◌, slice_index, slice_set};
 ghost use Rattle.clauses.specs.Formulas.{Assignment, value, negation, Models};
-ghost use Rattle.clauses.specs.Stores.{Known, AddedIf};
+ghost use Rattle.clauses.specs.Stores.{AddedIf};
 ghost use Rattle.trail.specs.Views.{formula_of, variables_of};
 ghost use Rattle.trail.specs.Trails.{Decided, Good, Jammed, Later, Falls, SameClauses, Forced, NoneModels, Rooted, RootAfter, Put, Popped};
 
@@ -119,14 +119,6 @@ impl Trail<'_> {
         ensures is { result.now ≡ self.now.values }
     {
         self.values
-    }
-
-    // The literals that are true, in the order in which they came.
-    pub fn literals(&self) -> &[u32]
-        ensures is { result.now ≡ take self.now.len self.now.literals }
-        ensures known { Known (variables_of self.now) result.now }
-    {
-        &self.literals[..self.len]
     }
 
     pub fn len(&self) -> usize

@@ -22,7 +22,8 @@ use trail::Trail;
 // is said of a number in each definition.
 const NO_LITERAL: u32 = 0xffff_ffff;
 
-// Which variables are marked; all that were marked once, in turn; and the clause that is learned.
+// Which variables are marked; all that were marked once, in turn; and the clause that is learned: in words
+// that are lent, of which so many are in use. The search is only read meanwhile, so it is no part of it.
 #[derive(Drop)]
 pub struct Analysis<'a> {
     seen: &'a mut [u32],

@@ -35,7 +35,8 @@ pub fn all_known(clause: &[u32], variables: usize) -> bool
         .all(|literal| ((*literal / 2) as usize) < variables)
 }
 
-// Whether words are spans: each begins before or where it ends, at a word or behind the last one.
+// Whether words are spans: each begins before or where it ends, at a word or behind the last one. They
+// are gone through by number, of which the promise speaks.
 fn are_spans(spans: &[u32], words: usize) -> bool
     ensures { IsTrue result ↔ AreSpans spans.now words }
 {

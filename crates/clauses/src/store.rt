@@ -6,6 +6,7 @@ ghost use Rattle.clauses.specs.Retaining.{SomeOf, Retains};
 use super::list::{Clauses, all_known};
 use std::marker::Model;
 
+// Words that are lent, and how many of them are in use: there is no heap.
 #[derive(Drop)]
 pub struct Store<'a> {
     variables: usize,

@@ -50,7 +50,7 @@ fn lower(solver: &mut Solver, place: usize, values: &mut [u32]) -> usize
 }
 
 // From a model that is lowest at the first variable of a range: settles one variable after the other.
-// How many questions that took.
+// How many questions that took. Fixing fails only where there is no model, but one is held.
 fn descend(solver: &mut Solver, low: usize, high: usize, values: &mut [u32]) -> usize
     requires size { length values.old ≡ variables_of solver.old }
     requires few { variables_of solver.old < 2147483647 }

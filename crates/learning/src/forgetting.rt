@@ -8,7 +8,7 @@ ghost use Rattle.clauses.specs.Retaining.{SomeOf};
 
 use propagation::Search;
 
-// When each learned clause last took part, by a clock of conflicts.
+// When each learned clause last took part, by a clock of conflicts, in words that are lent.
 #[derive(Drop)]
 pub struct Uses<'a> {
     pub last: &'a mut [u32],

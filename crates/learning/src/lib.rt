@@ -52,7 +52,8 @@ fn forces(search: &Search, clause: &[u32], before: usize, literal: u32) -> bool
     true
 }
 
-// The lowest decision above the literals of a clause but one; the trail's length where there is none.
+// The lowest decision above the literals of a clause but one; the trail's length where there is none, which
+// is a place to go back to as well.
 pub fn decision_above(search: &Search, clause: &[u32], literal: u32) -> usize
     requires { Known (variables_of search.now) clause.now }
     ensures { LowestDecision search.now.trail.marks search.now.causes.places clause.now search.now.trail.len literal result }

@@ -178,6 +178,8 @@ impl<'a> Search<'a> {
         self.trail.decide(literal);
     }
 
+    // The trail is handed out to be read only, so what changes it is here again, with what stays.
+
     // Goes back to the first so many literals.
     pub fn pop_to(&mut self, keep: usize)
         requires { keep ≤ self.old.trail.len }

@@ -25,7 +25,8 @@ pub enum Step {
     Complete,
 }
 
-// By what the next variable is chosen: by activity, or in the sequence of variables, false first.
+// By what the next variable is chosen: by activity, or in the sequence of variables, false first. A closure
+// for it would be a type parameter of all that solve, for two that there are.
 #[derive(Clone, Copy)]
 pub enum Guide {
     Activity,
@@ -96,7 +97,8 @@ fn put_on(learner: &mut Learner, assumptions: &[u32], count: usize, literal: u32
     Step::Decided
 }
 
-// Decides on, with the first so many assumptions in force.
+// Decides on, with the first so many assumptions in force. The list stays whole, since promises speak of the
+// wishes behind them too.
 pub fn decide_on(learner: &mut Learner, assumptions: &[u32], count: usize, guide: Guide) -> Step
     requires known { KnownAll (variables_of learner.old.search.trail) assumptions.now }
     requires count { count ≤ length assumptions.now }

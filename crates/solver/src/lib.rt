@@ -120,7 +120,7 @@ fn fix_unit(search: &mut Search, literal: u32) -> Result<(), NoModel>
     Ok(())
 }
 
-// The search under assumptions, which `solve_under` promises.
+// The search under assumptions, which `solve_under` promises; with the solver's pace, or with another.
 fn seek(
     learner: &mut Learner,
     pace: &mut Pace,

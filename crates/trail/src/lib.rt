@@ -18,7 +18,8 @@ const DECIDED: u32 = 1;
 
 // The clauses; a value for each variable (0 not known, 1 true, 2 false), the literals that are true in
 // the order in which they came, and for each of those whether it was decided or implied. The clauses are
-// a problem's, and those of one literal each that came later.
+// a problem's, and those of one literal each that came later. All are words that are lent, of which so
+// many are in use; the values are what callers get.
 #[derive(Drop)]
 pub struct Trail<'a> {
     problem: Clauses<'a>,

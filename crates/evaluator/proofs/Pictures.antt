@@ -146,12 +146,12 @@ bit_is zero h = refl
 bit_is (suc zero) h = refl
 bit_is (suc (suc x)) h = absurd (omega arith)
 
-pub reading_all : (z : Shape) (s ws : List ℕ) (at : ℕ) → at ≡ z.relations * (z.size.things * z.size.things) → length s ≡ at → (long : length ws ≡ 8) → Reading z.relations z.size.things s ws at → Packs z.relations z.size.things s (record { words = ws; shape = z; long = long })
-reading_all z s ws at e l long r =
+pub reading_all : (z : Shape) (n m : ℕ) → z.relations ≡ n → z.size.things ≡ m → (s ws : List ℕ) (at : ℕ) → at ≡ z.relations * (z.size.things * z.size.things) → length s ≡ at → (long : length ws ≡ 8) → Reading z.relations z.size.things s ws at → Packs n m s (record { words = ws; shape = z; long = long })
+reading_all z n m is_n is_m s ws at e l long r =
     let p : Packed = record { words = ws; shape = z; long = long } in
     record {
-      relations = refl;
-      things = refl;
+      relations = is_n;
+      things = is_m;
       bytes =
           ext_get_or 0 s (bits (unpacked p)) (l ∙ e ∙ sym (length_bits (unpacked p) ∙ length_unpacked p))
           (λ k h. bit_is (get_or s k 0) (r.neat k (omega arith)) ∙ ap (λ (b : Bool). cond b 1 0) (sym (get_or_unpacked p k (omega arith) ∙ r.done k (omega arith))) ∙ sym (get_d_bits (unpacked p) k));

@@ -4,7 +4,7 @@
 ghost use Rattle.std.specs.Prelude.{◌+◌, ◌≤◌};
 ghost use Rattle.evaluator.specs.Speaking.{Sees};
 ghost use Rattle.gates.specs.Circuits.{GrewC};
-ghost use Rattle.encoder.specs.Encoding.{bits, Encoded};
+ghost use Rattle.encoder.specs.Encoding.{bits_of, Encoded};
 
 use clauses::negated;
 use descriptions::{
@@ -39,7 +39,7 @@ impl<'a> Encoder<'a> {
     // The table of an expression's relation.
     #[cycle(tables)]
     fn expression(&self, circuit: &mut Circuit, at: usize) -> Option<Written<[u32; 64]>>
-        requires { 1 + bits self.now.shape.relations self.now.shape.size.things ≤ circuit.old.base }
+        requires { 1 + bits_of self.now.shape.relations self.now.shape.size.things ≤ circuit.old.base }
         ensures grew { GrewC circuit.old circuit.new }
         ensures says { TableSays self.now.shape self.now.spoken self.now.bytes.now at circuit.old circuit.new result }
     {
@@ -82,7 +82,7 @@ impl<'a> Encoder<'a> {
     // The tables of two expressions, one after the other.
     #[cycle(tables)]
     fn pair(&self, circuit: &mut Circuit, at: usize) -> Option<Written<([u32; 64], [u32; 64])>>
-        requires { 1 + bits self.now.shape.relations self.now.shape.size.things ≤ circuit.old.base }
+        requires { 1 + bits_of self.now.shape.relations self.now.shape.size.things ≤ circuit.old.base }
         ensures grew { GrewC circuit.old circuit.new }
         ensures says { TablesSay self.now.shape self.now.spoken self.now.bytes.now at circuit.old circuit.new result }
     {
@@ -99,7 +99,7 @@ impl<'a> Encoder<'a> {
     // The literal of a sentence's truth.
     #[cycle(literals)]
     fn sentence(&self, circuit: &mut Circuit, at: usize) -> Option<Written<u32>>
-        requires { 1 + bits self.now.shape.relations self.now.shape.size.things ≤ circuit.old.base }
+        requires { 1 + bits_of self.now.shape.relations self.now.shape.size.things ≤ circuit.old.base }
         ensures grew { GrewC circuit.old circuit.new }
         ensures says { TruthSays self.now.shape self.now.spoken self.now.bytes.now at circuit.old circuit.new result }
     {
@@ -156,7 +156,7 @@ impl<'a> Encoder<'a> {
     // The literal of 'the sentence that is written at a place holds of every thing'.
     #[cycle(literals)]
     fn for_every(&self, circuit: &mut Circuit, at: usize) -> Option<u32>
-        requires inputs { 1 + bits self.now.shape.relations self.now.shape.size.things ≤ circuit.old.base }
+        requires inputs { 1 + bits_of self.now.shape.relations self.now.shape.size.things ≤ circuit.old.base }
         requires room { self.now.spoken.count < 4 }
         ensures grew { GrewC circuit.old circuit.new }
         ensures says { EverySaysIf self.now.shape self.now.spoken self.now.bytes.now at circuit.old circuit.new result }
@@ -178,7 +178,7 @@ impl<'a> Encoder<'a> {
 // The literal of a description about so many relations, for pictures of so many things; None where the
 // words are too few. Of bytes that are no such description nothing is said.
 pub fn encode(circuit: &mut Circuit, description: &[u8], shape: Shape) -> Option<u32>
-    requires { 1 + bits shape.relations shape.size.things ≤ circuit.old.base }
+    requires { 1 + bits_of shape.relations shape.size.things ≤ circuit.old.base }
     ensures grew { GrewC circuit.old circuit.new }
     ensures says { Encoded shape description.now circuit.old circuit.new result }
 {

@@ -1,6 +1,7 @@
 // Encoding over bytes: an expression's relation as a table of literals, a sentence's truth as a
 // literal, each with where its writing ends. 'For every' encodes its sentence once for each thing;
 // what does not speak of the thing comes to the same gates, which are shared.
+// Each function asks for inputs enough and says that it adds only gates: a circuit is lent, and grows.
 ghost use Rattle.std.specs.Prelude.{◌+◌, ◌≤◌};
 ghost use Rattle.evaluator.specs.Speaking.{Sees};
 ghost use Rattle.gates.specs.Circuits.{GrewC};
@@ -16,6 +17,7 @@ use gates::{ALWAYS, Circuit, NEVER};
 use tables::{apart, combined, empty, identity, inputs, single, transformed};
 
 // Reads a description's bytes as gates for pictures of a shape, with some of their things spoken of.
+// Arm for arm like the evaluator's Reader, but no generic of it: it changes a circuit, may want for words, and counts.
 #[derive(Clone, Copy)]
 struct Encoder<'a> {
     bytes: &'a [u8],
@@ -88,6 +90,7 @@ impl<'a> Encoder<'a> {
     {
         let one = self.expression(circuit, at)?;
         let other = self.expression(circuit, one.end)?;
+        // An array that a field holds goes into a tuple by way of a variable.
         let first = one.value;
         let second = other.value;
         Some(Written {

@@ -1,11 +1,12 @@
 -- Places of pictures by relation and pair, and which bit comes where.
-use Rattle.std.proofs.Common.{◌≡◌, ℕ, ◌+◌, ◌*◌, ◌/◌, ◌%◌, ◌<◌, sym, refl, ap, ◌∙◌, add_assoc, add-mul, mul_assoc, mod-lt, arith}
+use Rattle.std.proofs.Common.{◌≡◌, ℕ, ◌+◌, ◌*◌, ◌/◌, ◌%◌, ◌<◌, sym, refl, ap, ◌∙◌, mod-lt, arith}
 use Rattle.std.proofs.Math.Nat.{div-div-eq-div-mul}
 use Rattle.std.proofs.Math.Arith.{mod-mul}
 use Rattle.std.proofs.lemmas.Nat.{div-mul-add, mod-mul-add}
 use Rattle.descriptions.specs.declared.shapes.Spot.{Spot}
 use Rattle.descriptions.specs.declared.shapes.Pair.{Pair}
 use Rattle.descriptions.specs.Shapes.{SpotAt, PairAt}
+use Rattle.descriptions.proofs.Places.{place_sum}
 use Rattle.firsts.specs.Leaders.{source, swap}
 use Rattle.firsts.proofs.Places.{source_below}
 
@@ -15,10 +16,6 @@ spot_first k m h = ap (λ (x : ℕ). x / m) (mod-mul k h h) ∙ div-mul-add (k /
 
 spot_second : (k m : ℕ) → 0 < m → k % (m * m) % m ≡ k % m
 spot_second k m h = ap (λ (x : ℕ). x % m) (mod-mul k h h) ∙ mod-mul-add (k / m % m) m (k % m) (mod-lt k h)
-
--- a place by its relation's first and the pair's
-place_sum : (m r i j : ℕ) → (r * m + i) * m + j ≡ r * (m * m) + (i * m + j)
-place_sum m r i j = ap (λ (x : ℕ). x + j) (add-mul (r * m) i m ∙ ap (λ (x : ℕ). x + i * m) (mul_assoc r m m)) ∙ add_assoc (r * (m * m)) (i * m) j
 
 -- the place of what comes there
 module _ (n k m : ℕ) (s : Spot) (p : Pair) (spot : SpotAt n k m s) (pair : PairAt s.place m p) where

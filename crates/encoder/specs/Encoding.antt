@@ -12,6 +12,7 @@ use Rattle.evaluator.specs.Speaking.{seen}
 use Rattle.clauses.specs.Formulas as literal
 use Rattle.gates.specs.declared.circuit.Circuit.{Circuit}
 use Rattle.gates.specs.Circuits.{GoesC}
+use Rattle.gates.specs.Views.{CircuitView, view, GoesV}
 use Rattle.tables.specs.Tables.{shown, FilledC, combine_cost, transform_cost}
 
 -- how many bits a picture has
@@ -57,9 +58,12 @@ pub record ShowsE (relations things : ℕ) (v : List ℕ) (d : Circuit) (t : Lis
   pub is : (α : literal.Assignment) → GoesC d α → (p : Picture) → Draws (bits_of relations things) α p → (i j : ℕ) → i < things → j < things → shown α things t i j ≡ value things p v e i j
 
 -- the literal is true where the sentence holds of that picture
-pub record Means (relations things : ℕ) (v : List ℕ) (d : Circuit) (l : ℕ) (s : Sentence) : Type 0 where
+pub record MeansV (relations things : ℕ) (v : List ℕ) (d : CircuitView) (l : ℕ) (s : Sentence) : Type 0 where
   pub low : l < 2 * (d.base + d.count)
-  pub is : (α : literal.Assignment) → GoesC d α → (p : Picture) → Draws (bits_of relations things) α p → literal.value α l ≡ holds things p v s
+  pub is : (α : literal.Assignment) → GoesV d α → (p : Picture) → Draws (bits_of relations things) α p → literal.value α l ≡ holds things p v s
+
+abbrev pub Means : ℕ → ℕ → List ℕ → Circuit → ℕ → Sentence → Type 0
+Means relations things v d l s = MeansV relations things v (view d) l s
 
 -- with so many gates more at most
 pub record EncodesE (relations things : ℕ) (v : List ℕ) (c d : Circuit) (t : List ℕ) (e : Expression) : Type 0 where

@@ -8,12 +8,13 @@ use Rattle.clauses.specs.Formulas.{Assignment, value, Models}
 use Rattle.clauses.specs.Views.{StoreView}
 use Rattle.gates.specs.declared.circuit.Circuit.{Circuit}
 use Rattle.gates.specs.Circuits.{GoesC}
-use Rattle.gates.specs.Writing.{Written}
-use Rattle.encoder.specs.Encoding.{bits_of, Draws, drawn, size_s, Means}
+use Rattle.gates.specs.Views.{CircuitView}
+use Rattle.gates.specs.Writing.{WrittenV}
+use Rattle.encoder.specs.Encoding.{bits_of, Draws, drawn, size_s, MeansV, Means}
 
--- from a model of the clauses one reads a picture, and the description's literal is true where the picture is of it
+-- from a model of the clauses one reads a picture, and the description's literal is true where the picture is of it; the gates need not be sound
 abbrev pub ModelsHavePictures : Type 0
-ModelsHavePictures = (relations things : ℕ) (c : Circuit) (t : StoreView) (l : ℕ) (d : Description) → Means relations things [] c l d.sentence → d.relations ≡ relations → Written c t → (α : Assignment) → Models (t.formula) α → Sized d things (drawn (bits_of relations things) α) × (value α l ≡ of d things (drawn (bits_of relations things) α))
+ModelsHavePictures = (relations things : ℕ) (c : CircuitView) (t : StoreView) (l : ℕ) (d : Description) → MeansV relations things [] c l d.sentence → d.relations ≡ relations → WrittenV c t → (α : Assignment) → Models (t.formula) α → Sized d things (drawn (bits_of relations things) α) × (value α l ≡ of d things (drawn (bits_of relations things) α))
 
 -- each picture is drawn by an assignment that goes with the gates
 abbrev pub PicturesHaveModels : Type 0

@@ -4,6 +4,7 @@ use Rattle.std.proofs.lemmas.Bool.{cases_lt, eq-eqb, ne_eqb}
 use Rattle.clauses.specs.Formulas.{Assignment, value}
 use Rattle.gates.specs.Words.{output, Goes}
 use Rattle.gates.proofs.Gates.{Before, inputs_before}
+use Rattle.gates.specs.Views.{CircuitView, view, GoesV, SoundV}
 use Rattle.gates.specs.Theorems.{Extends, Determined}
 
 -- the inputs, and then gate by gate
@@ -62,8 +63,11 @@ module _ (base : ℕ) (g : List ℕ) where
           let q : v ≡ base + n = omega arith in
           ap α q ∙ o.gates n (omega arith) ∙ output_alike base g (suc n) n α β before (omega arith) ih ∙ sym (p.gates n (omega arith)) ∙ ap β (sym q)
 
+pub extends_sound : (c : CircuitView) (α : Assignment) → SoundV c → α 0 ≡ true → (β : Assignment) × GoesV c β × ((v : ℕ) → v < c.base → β v ≡ α v)
+extends_sound c α sound t = (run c.base c.words c.count α, run_goes c.base c.words c.count α sound.some sound.before t, run_inputs c.base c.words c.count α)
+
 pub extends : Extends
-extends c α t = (run c.base c.words.now c.count α, run_goes c.base c.words.now c.count α c.sound.some c.sound.before t, run_inputs c.base c.words.now c.count α)
+extends c α t = extends_sound (view c) α c.sound t
 
 pub determined : Determined
 determined c α β o p e v h = agree c.base c.words.now c.count α β c.sound.before o p e v h

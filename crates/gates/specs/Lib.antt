@@ -2,6 +2,8 @@
 pub mod Words
 -- Circuits of one kind of gate.
 pub mod Circuits
+-- What is seen of them.
+pub mod Views
 -- Their clauses.
 pub mod Writing
 -- What is proved of circuits themselves.

@@ -7,7 +7,7 @@ use Rattle.clauses.specs.Views.{StoreView}
 use Rattle.clauses.specs.Stores.{SameMemory}
 use Rattle.gates.specs.declared.circuit.Circuit.{Circuit}
 use Rattle.gates.specs.Words.{output}
-use Rattle.gates.specs.Circuits.{GoesC, MeetsC}
+use Rattle.gates.specs.Views.{CircuitView, view, GoesV, MeetsV}
 
 -- one of a clause's literals is true
 abbrev pub satisfied : Assignment → List ℕ → Bool
@@ -42,19 +42,28 @@ abbrev pub Valued : ℕ → List ℕ → ℕ → Assignment → Type 0
 Valued base g n α = (k : ℕ) → k < n → α (base + k) ≡ output g k α
 
 -- how many clauses and literals a circuit has
+abbrev pub clauses_in : CircuitView → ℕ
+clauses_in c = 1 + 4 * c.count + c.claimed
+
+abbrev pub literals_in : CircuitView → ℕ
+literals_in c = 1 + 11 * c.count + 3 * c.claimed
+
 abbrev pub clauses_of : Circuit → ℕ
-clauses_of c = 1 + 4 * c.count + c.claimed
+clauses_of c = clauses_in (view c)
 
 abbrev pub literals_of : Circuit → ℕ
-literals_of c = 1 + 11 * c.count + 3 * c.claimed
+literals_of c = literals_in (view c)
 
 -- the models of what was written are the assignments that go with the gates and meet the claims
-pub record Written (c : Circuit) (t : StoreView) : Type 0 where
-  pub count : length t.formula ≡ clauses_of c
-  pub used : t.used ≡ literals_of c
-  pub goes : (α : Assignment) → Models t.formula α → GoesC c α
-  pub meets : (α : Assignment) → Models t.formula α → MeetsC c α
-  pub models : (α : Assignment) → GoesC c α → MeetsC c α → Models t.formula α
+pub record WrittenV (c : CircuitView) (t : StoreView) : Type 0 where
+  pub count : length t.formula ≡ clauses_in c
+  pub used : t.used ≡ literals_in c
+  pub goes : (α : Assignment) → Models t.formula α → GoesV c α
+  pub meets : (α : Assignment) → Models t.formula α → MeetsV c α
+  pub models : (α : Assignment) → GoesV c α → MeetsV c α → Models t.formula α
+
+abbrev pub Written : Circuit → StoreView → Type 0
+Written c t = WrittenV (view c) t
 
 abbrev pub WrittenIf : Circuit → StoreView → StoreView → Result (Unit {0}) Unfit → Type 0
 WrittenIf c s t (Ok _) = SameMemory s t × Written c t

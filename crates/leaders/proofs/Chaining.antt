@@ -97,10 +97,10 @@ module _ (s t : Circuit) (m a b k g : ℕ) (c : Chained s t m a b k g) where
 
     module _ (linked : Linked t g x y u) where
       goes_before : (α : Assignment) → GoesC u α → GoesC t α
-      goes_before α goes = extends_goes t u linked.extends α goes
+      goes_before α goes = extends_goes linked.extends α goes
 
       extends_linked : Extended s u
-      extends_linked = extends_on s t u c.extends linked.extends
+      extends_linked = extends_on c.extends linked.extends
 
       few_linked : u.count ≤ s.count + links (looks m a b) (suc k)
       few_linked = let p = c.few in let q = linked.few in let r = links_more in omega arith

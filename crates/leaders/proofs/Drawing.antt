@@ -3,9 +3,8 @@ use Rattle.std.proofs.Common.{◌≡◌, ℕ, zero, suc, ◌+◌, ◌*◌, ◌/�
 use Rattle.std.proofs.lemmas.Bool.{cases_eq}
 use Rattle.descriptions.specs.Pictures.{Picture, relation_of}
 use Rattle.clauses.specs.Formulas.{Assignment}
-use Rattle.gates.specs.declared.circuit.Circuit.{Circuit}
-use Rattle.gates.specs.Circuits.{GoesC}
-use Rattle.gates.proofs.Runs.{extends}
+use Rattle.gates.specs.Views.{CircuitView, GoesV, SoundV}
+use Rattle.gates.proofs.Runs.{extends_sound}
 use Rattle.firsts.specs.Leaders.{bit_of, place}
 use Rattle.firsts.proofs.Places.{place_of, place_below, relation_at}
 use Rattle.leaders.specs.Leading.{Draws}
@@ -24,14 +23,14 @@ unfolding drawing
 drawing_bit p k = ap (drawing p) (one-add k)
 
 -- each picture is drawn by some assignment that goes with the gates
-pub record Drawing (c : Circuit) (p : Picture) : Type 0 where
+pub record Drawing (c : CircuitView) (p : Picture) : Type 0 where
   pub assignment : Assignment
-  pub goes : GoesC c assignment
+  pub goes : GoesV c assignment
   pub draws : Draws assignment p
 
-pub drawn_by_some : (c : Circuit) (p : Picture) → length p < c.base → Drawing c p
-drawn_by_some c p inside =
-    let x = extends c (drawing p) (drawing_top p) in
+pub drawn_by_some : (c : CircuitView) (p : Picture) → SoundV c → length p < c.base → Drawing c p
+drawn_by_some c p sound inside =
+    let x = extends_sound c (drawing p) sound (drawing_top p) in
     record { assignment = x.0; goes = x.1; draws = λ k h. x.2 (1 + k) (omega arith) ∙ drawing_bit p k }
 
 -- the same by relations and pairs of things

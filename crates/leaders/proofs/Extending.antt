@@ -3,15 +3,16 @@ use Rattle.std.proofs.Common.{◌≡◌, ℕ, Bool, List, length, get_or, sym, r
 use Rattle.clauses.specs.Formulas.{Assignment}
 use Rattle.gates.specs.declared.circuit.Circuit.{Circuit}
 use Rattle.gates.specs.Words.{Meets}
-use Rattle.gates.specs.Circuits.{GoesC, MeetsC, AddsC, GivesC, Claims}
+use Rattle.gates.specs.Circuits.{MeetsC, AddsC, GivesC, Claims}
+use Rattle.gates.specs.Views.{CircuitView, GoesV}
 use Rattle.gates.proofs.Gates.{goes_fewer}
-use Rattle.leaders.specs.Leading.{Extended}
+use Rattle.leaders.specs.Leading.{ExtendedV, Extended}
 
 pub extends_none : (s : Circuit) → Extended s s
 extends_none s = record { base = refl; more = omega arith; size = refl; kept = λ i h. refl; claims_more = omega arith; claims_size = refl; met = λ α h. h }
 
-pub extends_on : (s t u : Circuit) → Extended s t → Extended t u → Extended s u
-extends_on s t u e f =
+pub extends_on : {s t u : CircuitView} → ExtendedV s t → ExtendedV t u → ExtendedV s u
+extends_on e f =
     let a = e.more in let b = f.more in let c = e.claims_more in let d = f.claims_more in
     record {
       base = f.base ∙ e.base;
@@ -23,11 +24,11 @@ extends_on s t u e f =
       met = λ α h. e.met α (f.met α h);
     }
 
-pub extends_goes : (s t : Circuit) → Extended s t → (α : Assignment) → GoesC t α → GoesC s α
-extends_goes s t e α g = goes_fewer {t = s.claims.now} {c = s.claimed} {t' = s.claims.now} {c' = s.claimed} (record { same = e.base; more = e.more; size = e.size; kept = e.kept; claims = refl; claims_count = refl }) α g
+pub extends_goes : {s t : CircuitView} → ExtendedV s t → (α : Assignment) → GoesV t α → GoesV s α
+extends_goes {s} {t} e α g = goes_fewer {t = s.claims} {c = s.claimed} {t' = s.claims} {c' = s.claimed} (record { same = e.base; more = e.more; size = e.size; kept = e.kept; claims = refl; claims_count = refl }) α g
 
 pub extends_gives : (s t : Circuit) → Extended s t → (l : ℕ) (v : Assignment → Bool) → GivesC s l v → GivesC t l v
-extends_gives s t e l v g = let a = g.low in let b = e.base in let c = e.more in record { low = omega arith; is = λ α h. g.is α (extends_goes s t e α h) }
+extends_gives s t e l v g = let a = g.low in let b = e.base in let c = e.more in record { low = omega arith; is = λ α h. g.is α (extends_goes e α h) }
 
 meets_same : (t t' : List ℕ) (c c' : ℕ) (α : Assignment) → t' ≡ t → c' ≡ c → Meets t' c' α → Meets t c α
 meets_same t t' c c' α e f h = subst (λ (x : List ℕ). Meets x c α) e (subst (λ (x : ℕ). Meets t' x α) f h)

@@ -20,7 +20,7 @@ module _ (s : Circuit) (g x y z : ℕ) (opposite : z ≡ negation x) where
     linked =
         let a = claims.count in let b = claims.counts in let c = adds.few in let d = adds.grew.claims_count in
         record {
-          extends = extends_on s t u (claims_extends s t g z y claims) (adds_extends t u 1 adds);
+          extends = extends_on (claims_extends s t g z y claims) (adds_extends t u 1 adds);
           few = omega arith;
           claims_few = omega arith;
           meets = λ α h e. adds_meets t u 1 adds α (claims.meets α h (passes_either α ∙ e));

@@ -4,6 +4,7 @@ use Rattle.descriptions.specs.Pictures.{Picture}
 use Rattle.clauses.specs.Formulas.{Assignment, value}
 use Rattle.gates.specs.declared.circuit.Circuit.{Circuit}
 use Rattle.gates.specs.Circuits.{GoesC, MeetsC, GivesC}
+use Rattle.gates.specs.Views.{CircuitView, view, GoesV, MeetsV}
 use Rattle.firsts.specs.Leaders.{bit_of, led, Leader}
 
 -- an assignment draws a picture: its bits are the variables from 1 on
@@ -11,18 +12,24 @@ abbrev pub Draws : Assignment → Picture → Type 0
 Draws α p = (k : ℕ) → k < length p → α (1 + k) ≡ bit_of p k
 
 -- gates and claims are only added
-pub record Extended (s t : Circuit) : Type 0 where
+pub record ExtendedV (s t : CircuitView) : Type 0 where
   pub base : t.base ≡ s.base
   pub more : s.count ≤ t.count
-  pub size : length t.words.now ≡ length s.words.now
-  pub kept : (i : ℕ) → i < 3 * s.count → slice_index t.words.now i ≡ slice_index s.words.now i
+  pub size : length t.words ≡ length s.words
+  pub kept : (i : ℕ) → i < 3 * s.count → slice_index t.words i ≡ slice_index s.words i
   pub claims_more : s.claimed ≤ t.claimed
-  pub claims_size : length t.claims.now ≡ length s.claims.now
-  pub met : (α : Assignment) → MeetsC t α → MeetsC s α
+  pub claims_size : length t.claims ≡ length s.claims
+  pub met : (α : Assignment) → MeetsV t α → MeetsV s α
+
+abbrev pub Extended : Circuit → Circuit → Type 0
+Extended s t = ExtendedV (view s) (view t)
 
 -- there is no room for a gate, or for a claim
+abbrev pub NoRoomV : CircuitView → Type 0
+NoRoomV c = (length c.words < 3 * c.count + 3) ⊎ (length c.claims < 3 * c.claimed + 3)
+
 abbrev pub NoRoom : Circuit → Type 0
-NoRoom c = (length c.words.now < 3 * c.count + 3) ⊎ (length c.claims.now < 3 * c.claimed + 3)
+NoRoom c = NoRoomV (view c)
 
 -- a bit x here and y that comes here: something before was smaller already, which g says, or x is not larger than y
 abbrev pub passes : Assignment → ℕ → ℕ → ℕ → Bool
@@ -60,8 +67,11 @@ pub record Chains (s : Circuit) (n m a b : ℕ) (t : Circuit) (whole : Bool) : T
   pub refused : whole ≡ false → NoRoom t
 
 -- there is no room for another chain, within so many gates and claims or in memory
+abbrev pub CrowdedV : ℕ → ℕ → ℕ → ℕ → CircuitView → Type 0
+CrowdedV n m gates claims t = (gates < t.count + 2 * (n * (m - 1))) ⊎ ((claims < t.claimed + 2 * (n * (m - 1))) ⊎ NoRoomV t)
+
 abbrev pub Crowded : ℕ → ℕ → ℕ → ℕ → Circuit → Type 0
-Crowded n m gates claims t = (gates < t.count + 2 * (n * (m - 1))) ⊎ ((claims < t.claimed + 2 * (n * (m - 1))) ⊎ NoRoom t)
+Crowded n m gates claims t = CrowdedV n m gates claims (view t)
 
 -- pairs of things that change places: one pair, those so far apart, and each
 abbrev pub OnePair : ℕ → ℕ → ℕ → ℕ → Type 0
@@ -74,10 +84,13 @@ abbrev pub Each : ℕ → ℕ → Type 0
 Each a b = Unit {0}
 
 -- chains of such pairs, within so many gates and claims: what they add is true of every leader; and if all are there, only of what leads for each pair
-pub record Leads (s : Circuit) (n m gates claims : ℕ) (Pair : ℕ → ℕ → Type 0) (t : Circuit) (all : Bool) : Type 0 where
-  pub extends : Extended s t
+pub record LeadsV (s : CircuitView) (n m gates claims : ℕ) (Pair : ℕ → ℕ → Type 0) (t : CircuitView) (all : Bool) : Type 0 where
+  pub extends : ExtendedV s t
   pub few : t.count ≤ max s.count gates
   pub claims_few : t.claimed ≤ max s.claimed claims
-  pub keeps : (α : Assignment) (p : Picture) → length p ≡ n * (m * m) → GoesC t α → Draws α p → Leader n m p → MeetsC s α → MeetsC t α
-  pub leads : all ≡ true → (α : Assignment) (p : Picture) → length p ≡ n * (m * m) → GoesC t α → Draws α p → MeetsC t α → (a b : ℕ) → a < b → b < m → Pair a b → led n m a b p ≡ true
-  pub refused : all ≡ false → Crowded n m gates claims t
+  pub keeps : (α : Assignment) (p : Picture) → length p ≡ n * (m * m) → GoesV t α → Draws α p → Leader n m p → MeetsV s α → MeetsV t α
+  pub leads : all ≡ true → (α : Assignment) (p : Picture) → length p ≡ n * (m * m) → GoesV t α → Draws α p → MeetsV t α → (a b : ℕ) → a < b → b < m → Pair a b → led n m a b p ≡ true
+  pub refused : all ≡ false → CrowdedV n m gates claims t
+
+abbrev pub Leads : Circuit → ℕ → ℕ → ℕ → ℕ → (ℕ → ℕ → Type 0) → Circuit → Bool → Type 0
+Leads s n m gates claims Pair t all = LeadsV (view s) n m gates claims Pair (view t) all

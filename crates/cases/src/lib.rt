@@ -4,7 +4,6 @@
 // pictures are written as decimal bytes.
 #[cfg(test)]
 mod tests {
-    use descriptions::Shape;
     use evaluator::{Packed, is_of};
     use pictures::pictures_find;
     use std::alloc::Global;
@@ -49,8 +48,7 @@ mod tests {
     fn holds(rt: &HostRuntime, description: &str, things: usize, bits: &str) -> Result<bool, Fail> {
         let description = bytes(rt.alloc(), description)?;
         let bits = bytes(rt.alloc(), bits)?;
-        let shape = Shape::new(1, things).ok_or("no shape")?;
-        let picture = Packed::pack(bits.as_slice(), shape).ok_or("no picture")?;
+        let picture = Packed::pack(bits.as_slice(), 1, things).ok_or("no picture")?;
         Ok(is_of(description.as_slice(), &picture).ok_or("no description")?)
     }
 

@@ -1,5 +1,6 @@
 -- generic lemmas
 pub mod Quantifiers
+pub mod Places
 pub mod Order
 -- bytes are the writing of one description at most
 pub mod Inversion

@@ -55,6 +55,7 @@ pub fn byte(bytes: &[u8], at: usize) -> Option<u8>
 pub fn expression_head(bytes: &[u8], at: usize) -> Option<ExpressionHead>
     ensures { HeadE bytes.now at result }
 {
+    // Operators have no TryFrom of their own: all codes stand in one table, and two of them read a number.
     match byte(bytes, at)? {
         0 => byte(bytes, at + 1).map(ExpressionHead::Named),
         1 => byte(bytes, at + 1).map(ExpressionHead::Thing),

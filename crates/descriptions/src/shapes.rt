@@ -42,8 +42,8 @@ pub struct Spot {
 }
 
 impl Size {
-    ghost use Rattle.std.specs.Prelude.{◌≡◌, ◌*◌, ◌<◌, MatchOption};
-    ghost use Rattle.descriptions.specs.Shapes.{PairAt};
+    ghost use Rattle.std.specs.Prelude.{◌≡◌, ◌+◌, ◌*◌, ◌<◌, MatchOption};
+    ghost use Rattle.descriptions.specs.Shapes.{PairAt, SpotAt};
 
     pub const MOST: usize = 8;
 
@@ -72,6 +72,26 @@ impl Size {
         Pair {
             first: place / self.things,
             second: place % self.things,
+        }
+    }
+
+    // The place of a pair.
+    pub fn place_of(self, first: usize, second: usize) -> usize
+        requires { (first < self.things) × (second < self.things) }
+        ensures { (result ≡ first * self.things + second) × (result < self.things * self.things) }
+    {
+        first * self.things + second
+    }
+
+    // Where the bit at a place stands, in a picture of so many relations.
+    pub fn spot_at(self, place: usize, relations: usize) -> Spot
+        requires { place < relations * (self.things * self.things) }
+        ensures { SpotAt relations place self.things result }
+    {
+        let pairs = self.pairs();
+        Spot {
+            relation: place / pairs,
+            place: place % pairs,
         }
     }
 }
@@ -105,10 +125,6 @@ impl Shape {
         requires { place < self.relations * (self.size.things * self.size.things) }
         ensures { SpotAt self.relations place self.size.things result }
     {
-        let pairs = self.size.pairs();
-        Spot {
-            relation: place / pairs,
-            place: place % pairs,
-        }
+        self.size.spot_at(place, self.relations)
     }
 }

@@ -15,7 +15,7 @@ use Rattle.gates.specs.Circuits.{GrewC, AddsC, Full}
 use Rattle.gates.proofs.Gates.{goes_fewer}
 use Rattle.tables.specs.Tables.{shown, ShowsC, Are, combine_cost, transform_cost}
 use Rattle.tables.proofs.Constants.{inputs_show, single_shows, identity_shows, empty_shows}
-use Rattle.encoder.specs.Encoding.{bits, FirstAt, size_e, TooFew, EncodesE, EncodesPair, TableSays, TablesSay}
+use Rattle.encoder.specs.Encoding.{bits_of, FirstAt, size_e, TooFew, EncodesE, EncodesPair, TableSays, TablesSay}
 use Rattle.encoder.specs.declared.encoding.Encoder.{Encoder}
 use Rattle.descriptions.specs.declared.extents.Written.{Written}
 use Rattle.descriptions.specs.declared.heads.ExpressionHead.{ExpressionHead}
@@ -29,7 +29,7 @@ use Rattle.evaluator.proofs.Pictures.{row_fits}
 
 -- expressions that need no gate
 module _ (relations things : ℕ) (c : Circuit) (t : List ℕ) where
-  pub named_encoded : (v : List ℕ) (r first : ℕ) → 1 + bits relations things ≤ c.base → r < relations → first ≡ 1 + r * (things * things) → Are things t (λ k. 2 * (first + k)) → EncodesE relations things v c c t (named r)
+  pub named_encoded : (v : List ℕ) (r first : ℕ) → 1 + bits_of relations things ≤ c.base → r < relations → first ≡ 1 + r * (things * things) → Are things t (λ k. 2 * (first + k)) → EncodesE relations things v c c t (named r)
   named_encoded v r first h lt e f =
       let some = c.sound.some in
       let shows = inputs_show some things t first (omega (arith, row_fits r relations (things * things) lt)) f in
@@ -121,7 +121,7 @@ module _ (r : Encoder) (at : ℕ) where
     pub no_named : (i : ℕ) → h ≡ head.Named i → FirstAt n m i None → TableAt at c c None
     no_named i e f = named_absent _ _ s at h read i _ e f
 
-    pub named_table : (i first : ℕ) (t : List ℕ) → h ≡ head.Named i → 1 + bits n m ≤ c.base → FirstAt n m i (Some first) → Are m t (λ k. 2 * (first + k)) → TableAt at c c (Some (record { value = t; end = at + 2 }))
+    pub named_table : (i first : ℕ) (t : List ℕ) → h ≡ head.Named i → 1 + bits_of n m ≤ c.base → FirstAt n m i (Some first) → Are m t (λ k. 2 * (first + k)) → TableAt at c c (Some (record { value = t; end = at + 2 }))
     named_table i first t e room f are = named_stands _ _ s at h read i _ e f.0 (named_encoded n m c t (seen r.spoken) i first room f.0 f.1 are)
 
     pub no_thing : (i : ℕ) → h ≡ head.Thing i → ThingAt r.spoken i None → TableAt at c c None

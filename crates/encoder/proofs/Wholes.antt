@@ -15,7 +15,7 @@ use Rattle.evaluator.specs.Speaking.{seen, Silent}
 use Rattle.clauses.specs.Formulas.{Assignment}
 use Rattle.gates.specs.declared.circuit.Circuit.{Circuit}
 use Rattle.gates.proofs.Runs.{extends}
-use Rattle.encoder.specs.Encoding.{bits, Draws, drawn, size_s, TooFew, EncodesS, Encoded}
+use Rattle.encoder.specs.Encoding.{bits_of, Draws, drawn, size_s, TooFew, EncodesS, Encoded}
 use Rattle.encoder.specs.Theorems.{ModelsHavePictures, PicturesHaveModels}
 
 -- the bytes after the first are the sentence's
@@ -42,7 +42,7 @@ draws_drawn n α k h = sym (get_or-map-range_with_len (λ i. α (1 + i)) 0 n k k
 
 pub models_have_pictures : ModelsHavePictures
 models_have_pictures relations things c t l d means e w α m =
-    (drawn_length (bits relations things) α ∙ ap (λ (z : ℕ). z * (things * things)) (sym e), means.is α (w.goes α m) (drawn (bits relations things) α) (draws_drawn (bits relations things) α))
+    (drawn_length (bits_of relations things) α ∙ ap (λ (z : ℕ). z * (things * things)) (sym e), means.is α (w.goes α m) (drawn (bits_of relations things) α) (draws_drawn (bits_of relations things) α))
 
 -- an assignment of the inputs that draws a picture
 inputs : Picture → Assignment
@@ -59,5 +59,5 @@ inputs_top p = refl
 pub pictures_have_models : PicturesHaveModels
 pictures_have_models relations things c l d room means p =
     let q = extends c (inputs p) (inputs_top p) in
-    let draws : Draws (bits relations things) q.0 p = λ k h. q.2 (1 + k) (omega arith) ∙ inputs_at p k in
+    let draws : Draws (bits_of relations things) q.0 p = λ k h. q.2 (1 + k) (omega arith) ∙ inputs_at p k in
     (q.0, q.1, draws, means.is q.0 q.1 p draws)

@@ -16,8 +16,8 @@ use Rattle.gates.specs.Views.{CircuitView, view, GoesV}
 use Rattle.tables.specs.Tables.{shown, FilledC, combine_cost, transform_cost}
 
 -- how many bits a picture has
-abbrev pub bits : ℕ → ℕ → ℕ
-bits relations things = relations * (things * things)
+abbrev pub bits_of : ℕ → ℕ → ℕ
+bits_of relations things = relations * (things * things)
 
 -- the variable of the first pair of relation r, if there is the relation
 abbrev pub FirstAt : ℕ → ℕ → ℕ → Option ℕ → Type 0
@@ -55,12 +55,12 @@ TooFew c d size = length d.words.now < 3 * (c.count + size) + 3
 -- the table shows the relation that the expression stands for in the picture that the assignment draws
 pub record ShowsE (relations things : ℕ) (v : List ℕ) (d : Circuit) (t : List ℕ) (e : Expression) : Type 0 where
   pub filled : FilledC d things t
-  pub is : (α : literal.Assignment) → GoesC d α → (p : Picture) → Draws (bits relations things) α p → (i j : ℕ) → i < things → j < things → shown α things t i j ≡ value things p v e i j
+  pub is : (α : literal.Assignment) → GoesC d α → (p : Picture) → Draws (bits_of relations things) α p → (i j : ℕ) → i < things → j < things → shown α things t i j ≡ value things p v e i j
 
 -- the literal is true where the sentence holds of that picture
 pub record MeansV (relations things : ℕ) (v : List ℕ) (d : CircuitView) (l : ℕ) (s : Sentence) : Type 0 where
   pub low : l < 2 * (d.base + d.count)
-  pub is : (α : literal.Assignment) → GoesV d α → (p : Picture) → Draws (bits relations things) α p → literal.value α l ≡ holds things p v s
+  pub is : (α : literal.Assignment) → GoesV d α → (p : Picture) → Draws (bits_of relations things) α p → literal.value α l ≡ holds things p v s
 
 abbrev pub Means : ℕ → ℕ → List ℕ → Circuit → ℕ → Sentence → Type 0
 Means relations things v d l s = MeansV relations things v (view d) l s
@@ -93,7 +93,7 @@ TruthSays x v s at c d r = Read write_s (fine_s x.relations v.count) s at (λ t.
 pub record EncodesEvery (relations things : ℕ) (v : List ℕ) (c d : Circuit) (k l : ℕ) (s : Sentence) : Type 0 where
   pub few : d.count ≤ c.count + k * (size_s things s + 1)
   pub low : l < 2 * (d.base + d.count)
-  pub is : (α : literal.Assignment) → GoesC d α → (p : Picture) → Draws (bits relations things) α p → literal.value α l ≡ every k (λ i. holds things p (i ∷ v) s)
+  pub is : (α : literal.Assignment) → GoesC d α → (p : Picture) → Draws (bits_of relations things) α p → literal.value α l ≡ every k (λ i. holds things p (i ∷ v) s)
 
 abbrev pub EverySays : Shape → Environment → List ℕ → ℕ → Circuit → Circuit → ℕ → ℕ → Type 0
 EverySays x v s at c d k l = (e : Sentence) (t : List ℕ) → drop at s ≡ write_s e ++ t → EncodesEvery x.relations x.size.things (seen v) c d k l e

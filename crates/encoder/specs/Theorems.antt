@@ -10,15 +10,15 @@ use Rattle.gates.specs.declared.circuit.Circuit.{Circuit}
 use Rattle.gates.specs.Circuits.{GoesC}
 use Rattle.gates.specs.Views.{CircuitView}
 use Rattle.gates.specs.Writing.{WrittenV}
-use Rattle.encoder.specs.Encoding.{bits, Draws, drawn, size_s, MeansV, Means}
+use Rattle.encoder.specs.Encoding.{bits_of, Draws, drawn, size_s, MeansV, Means}
 
 -- from a model of the clauses one reads a picture, and the description's literal is true where the picture is of it; the gates need not be sound
 abbrev pub ModelsHavePictures : Type 0
-ModelsHavePictures = (relations things : ℕ) (c : CircuitView) (t : StoreView) (l : ℕ) (d : Description) → MeansV relations things [] c l d.sentence → d.relations ≡ relations → WrittenV c t → (α : Assignment) → Models (t.formula) α → Sized d things (drawn (bits relations things) α) × (value α l ≡ of d things (drawn (bits relations things) α))
+ModelsHavePictures = (relations things : ℕ) (c : CircuitView) (t : StoreView) (l : ℕ) (d : Description) → MeansV relations things [] c l d.sentence → d.relations ≡ relations → WrittenV c t → (α : Assignment) → Models (t.formula) α → Sized d things (drawn (bits_of relations things) α) × (value α l ≡ of d things (drawn (bits_of relations things) α))
 
 -- each picture is drawn by an assignment that goes with the gates
 abbrev pub PicturesHaveModels : Type 0
-PicturesHaveModels = (relations things : ℕ) (c : Circuit) (l : ℕ) (d : Description) → 1 + bits relations things ≤ c.base → Means relations things [] c l d.sentence → (p : Picture) → (α : Assignment) × GoesC c α × Draws (bits relations things) α p × (value α l ≡ of d things p)
+PicturesHaveModels = (relations things : ℕ) (c : Circuit) (l : ℕ) (d : Description) → 1 + bits_of relations things ≤ c.base → Means relations things [] c l d.sentence → (p : Picture) → (α : Assignment) × GoesC c α × Draws (bits_of relations things) α p × (value α l ≡ of d things p)
 
 -- gates are few
 abbrev pub GatesAreFew : Type 0

@@ -1,10 +1,11 @@
 // Encoding over bytes: an expression's relation as a table of literals, a sentence's truth as a
 // literal, each with where its writing ends. 'For every' encodes its sentence once for each thing;
 // what does not speak of the thing comes to the same gates, which are shared.
+// Each function asks for inputs enough and says that it adds only gates: a circuit is lent, and grows.
 ghost use Rattle.std.specs.Prelude.{◌+◌, ◌≤◌};
 ghost use Rattle.evaluator.specs.Speaking.{Sees};
 ghost use Rattle.gates.specs.Circuits.{GrewC};
-ghost use Rattle.encoder.specs.Encoding.{bits, Encoded};
+ghost use Rattle.encoder.specs.Encoding.{bits_of, Encoded};
 
 use clauses::negated;
 use descriptions::{
@@ -16,6 +17,7 @@ use gates::{ALWAYS, Circuit, NEVER};
 use tables::{apart, combined, empty, identity, inputs, single, transformed};
 
 // Reads a description's bytes as gates for pictures of a shape, with some of their things spoken of.
+// Arm for arm like the evaluator's Reader, but no generic of it: it changes a circuit, may want for words, and counts.
 #[derive(Clone, Copy)]
 struct Encoder<'a> {
     bytes: &'a [u8],
@@ -39,7 +41,7 @@ impl<'a> Encoder<'a> {
     // The table of an expression's relation.
     #[cycle(tables)]
     fn expression(&self, circuit: &mut Circuit, at: usize) -> Option<Written<[u32; 64]>>
-        requires { 1 + bits self.now.shape.relations self.now.shape.size.things ≤ circuit.old.base }
+        requires { 1 + bits_of self.now.shape.relations self.now.shape.size.things ≤ circuit.old.base }
         ensures grew { GrewC circuit.old circuit.new }
         ensures says { TableSays self.now.shape self.now.spoken self.now.bytes.now at circuit.old circuit.new result }
     {
@@ -82,12 +84,13 @@ impl<'a> Encoder<'a> {
     // The tables of two expressions, one after the other.
     #[cycle(tables)]
     fn pair(&self, circuit: &mut Circuit, at: usize) -> Option<Written<([u32; 64], [u32; 64])>>
-        requires { 1 + bits self.now.shape.relations self.now.shape.size.things ≤ circuit.old.base }
+        requires { 1 + bits_of self.now.shape.relations self.now.shape.size.things ≤ circuit.old.base }
         ensures grew { GrewC circuit.old circuit.new }
         ensures says { TablesSay self.now.shape self.now.spoken self.now.bytes.now at circuit.old circuit.new result }
     {
         let one = self.expression(circuit, at)?;
         let other = self.expression(circuit, one.end)?;
+        // An array that a field holds goes into a tuple by way of a variable.
         let first = one.value;
         let second = other.value;
         Some(Written {
@@ -99,7 +102,7 @@ impl<'a> Encoder<'a> {
     // The literal of a sentence's truth.
     #[cycle(literals)]
     fn sentence(&self, circuit: &mut Circuit, at: usize) -> Option<Written<u32>>
-        requires { 1 + bits self.now.shape.relations self.now.shape.size.things ≤ circuit.old.base }
+        requires { 1 + bits_of self.now.shape.relations self.now.shape.size.things ≤ circuit.old.base }
         ensures grew { GrewC circuit.old circuit.new }
         ensures says { TruthSays self.now.shape self.now.spoken self.now.bytes.now at circuit.old circuit.new result }
     {
@@ -156,7 +159,7 @@ impl<'a> Encoder<'a> {
     // The literal of 'the sentence that is written at a place holds of every thing'.
     #[cycle(literals)]
     fn for_every(&self, circuit: &mut Circuit, at: usize) -> Option<u32>
-        requires inputs { 1 + bits self.now.shape.relations self.now.shape.size.things ≤ circuit.old.base }
+        requires inputs { 1 + bits_of self.now.shape.relations self.now.shape.size.things ≤ circuit.old.base }
         requires room { self.now.spoken.count < 4 }
         ensures grew { GrewC circuit.old circuit.new }
         ensures says { EverySaysIf self.now.shape self.now.spoken self.now.bytes.now at circuit.old circuit.new result }
@@ -178,7 +181,7 @@ impl<'a> Encoder<'a> {
 // The literal of a description about so many relations, for pictures of so many things; None where the
 // words are too few. Of bytes that are no such description nothing is said.
 pub fn encode(circuit: &mut Circuit, description: &[u8], shape: Shape) -> Option<u32>
-    requires { 1 + bits shape.relations shape.size.things ≤ circuit.old.base }
+    requires { 1 + bits_of shape.relations shape.size.things ≤ circuit.old.base }
     ensures grew { GrewC circuit.old circuit.new }
     ensures says { Encoded shape description.now circuit.old circuit.new result }
 {

@@ -1,5 +1,5 @@
 -- Pictures packed into words.
-use Rattle.std.proofs.Common.{◌≡◌, ℕ, zero, suc, ◌+◌, ◌*◌, ◌/◌, ◌%◌, ◌<◌, ◌≤◌, Bool, true, false, cond, ◌&&◌, ◌||◌, eqb, ltb, ◌⊎◌, List, [], ◌∷◌, ◌++◌, length, get_or, take, drop, set, sym, refl, ap, ◌∙◌, inl, inr, add_assoc, mul-le-mul_right, mul_assoc, suc-mul, add-mul, arith, below_more}
+use Rattle.std.proofs.Common.{◌≡◌, ℕ, zero, suc, ◌+◌, ◌*◌, ◌/◌, ◌%◌, ◌<◌, ◌≤◌, Bool, true, false, cond, ◌&&◌, ◌||◌, eqb, ltb, ◌⊎◌, List, [], ◌∷◌, ◌++◌, length, get_or, take, drop, set, sym, refl, ap, ◌∙◌, inl, inr, mul-le-mul_right, suc-mul, arith, below_more}
 use Rattle.std.proofs.lemmas.Nat.{div-mul-add, mod-mul-add, div-add-mod'}
 use Rattle.std.proofs.Math.Bool.{or-false}
 use Rattle.std.proofs.Math.Seq.{take-append_seam, drop-append_seam}
@@ -8,6 +8,7 @@ use Rattle.std.proofs.lemmas.List.{ext_get_or, length-set, get_or-set_same, get_
 use Rattle.std.proofs.lemmas.Bool.{lt-ltb, eq-eqb, ne_eqb, eqb-true, cases_eq}
 use Rattle.descriptions.specs.Pictures.{Picture, relation_of}
 use Rattle.descriptions.proofs.Quantifiers.{same_truth}
+use Rattle.descriptions.proofs.Places.{place_sum}
 use Rattle.matrices.specs.Words.{bit, matrix}
 use Rattle.matrices.proofs.Bits.{bit_zero}
 use Rattle.matrices.proofs.Fill.{place_below}
@@ -20,9 +21,6 @@ use Rattle.evaluator.specs.Packing.{bit_at, size, unpacked, bits, Unpacks, Packs
 -- a relation's bits lie before those of the next
 pub row_fits : (r n q : ℕ) → r < n → r * q + q ≤ n * q
 row_fits r n q h = let a : suc r * q ≤ n * q = mul-le-mul_right q h in let e = suc-mul r q in omega arith
-
-place_sum : (m r i j : ℕ) → (r * m + i) * m + j ≡ r * (m * m) + (i * m + j)
-place_sum m r i j = ap (λ (x : ℕ). x + j) (add-mul (r * m) i m ∙ ap (λ (x : ℕ). x + i * m) (mul_assoc r m m)) ∙ add_assoc (r * (m * m)) (i * m) j
 
 -- a word is the relation of its number
 pub relation_is : (p : Packed) (r i j : ℕ) → r < p.shape.relations → i < p.shape.size.things → j < p.shape.size.things → relation_of p.shape.size.things (unpacked p) r i j ≡ matrix p.shape.size.things (get_or p.words r 0) i j
@@ -146,12 +144,12 @@ bit_is zero h = refl
 bit_is (suc zero) h = refl
 bit_is (suc (suc x)) h = absurd (omega arith)
 
-pub reading_all : (z : Shape) (s ws : List ℕ) (at : ℕ) → at ≡ z.relations * (z.size.things * z.size.things) → length s ≡ at → (long : length ws ≡ 8) → Reading z.relations z.size.things s ws at → Packs z.relations z.size.things s (record { words = ws; shape = z; long = long })
-reading_all z s ws at e l long r =
+pub reading_all : (z : Shape) (n m : ℕ) → z.relations ≡ n → z.size.things ≡ m → (s ws : List ℕ) (at : ℕ) → at ≡ z.relations * (z.size.things * z.size.things) → length s ≡ at → (long : length ws ≡ 8) → Reading z.relations z.size.things s ws at → Packs n m s (record { words = ws; shape = z; long = long })
+reading_all z n m is_n is_m s ws at e l long r =
     let p : Packed = record { words = ws; shape = z; long = long } in
     record {
-      relations = refl;
-      things = refl;
+      relations = is_n;
+      things = is_m;
       bytes =
           ext_get_or 0 s (bits (unpacked p)) (l ∙ e ∙ sym (length_bits (unpacked p) ∙ length_unpacked p))
           (λ k h. bit_is (get_or s k 0) (r.neat k (omega arith)) ∙ ap (λ (b : Bool). cond b 1 0) (sym (get_or_unpacked p k (omega arith) ∙ r.done k (omega arith))) ∙ sym (get_d_bits (unpacked p) k));

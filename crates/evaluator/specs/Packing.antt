@@ -3,7 +3,6 @@ use Rattle.std.specs.Prelude.{◌≡◌, ℕ, ◌*◌, ◌/◌, ◌%◌, ◌<◌
 use Rattle.std.specs.List.{range_with_len}
 use Rattle.descriptions.specs.Pictures.{Picture}
 use Rattle.matrices.specs.Words.{bit}
-use Rattle.descriptions.specs.declared.shapes.Shape.{Shape}
 use Rattle.evaluator.specs.declared.packing.Packed.{Packed}
 
 -- bit k of the picture of m things
@@ -33,9 +32,9 @@ pub record Packs (n m : ℕ) (s : List ℕ) (p : Packed) : Type 0 where
   pub things : p.shape.size.things ≡ m
   pub bytes : s ≡ bits (unpacked p)
 
-abbrev pub PackSays : Shape → List ℕ → Option Packed → Type 0
-PackSays z s None = (q : Picture) → length q ≡ z.relations * (z.size.things * z.size.things) → s ≢ bits q
-PackSays z s (Some p) = Packs z.relations z.size.things s p
+abbrev pub PackSays : ℕ → ℕ → List ℕ → Option Packed → Type 0
+PackSays n m s None = n ≤ 8 → m ≤ 8 → (q : Picture) → length q ≡ n * (m * m) → s ≢ bits q
+PackSays n m s (Some p) = Packs n m s p
 
 -- the word of relation r, if there is one
 abbrev pub RelationAt : Packed → ℕ → Option ℕ → Type 0

@@ -1,4 +1,5 @@
 // A picture packed into words: for each relation a word with a bit for each pair.
+// Eight words stand there whatever the shape uses: no heap is asked for.
 ghost use Rattle.std.specs.Prelude.{◌≡◌, length};
 
 use descriptions::Shape;
@@ -16,9 +17,10 @@ impl Packed {
     ghost use Rattle.evaluator.specs.Packing.{size, RelationAt, Unpacks, PackSays};
 
     // Reads a picture from its bits, one a byte; None where they are not that.
-    pub fn pack(bits: &[u8], shape: Shape) -> Option<Packed>
-        ensures { PackSays shape bits.now result }
+    pub fn pack(bits: &[u8], relations: usize, things: usize) -> Option<Packed>
+        ensures { PackSays relations things bits.now result }
     {
+        let shape = Shape::new(relations, things)?;
         if bits.len() != shape.bits() {
             return None;
         }

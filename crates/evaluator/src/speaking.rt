@@ -1,4 +1,5 @@
 // The things that 'for every' speaks of, the newest first: four at most.
+// An array with a count: no heap is asked for.
 ghost use Rattle.std.specs.Prelude.{◌≡◌, ◌≤◌, length};
 
 #[derive(Clone, Copy)]

@@ -2,6 +2,7 @@
 // any other engine answers is compared with it.
 #![tactic(auto)]
 
+ghost use Rattle.std.specs.Prelude.{◌≤◌};
 ghost use Rattle.exhaustive.specs.Trying.{Blank, Advanced, Tells, FirstOf, FirstUpTo};
 
 use descriptions::{Shape, Size};
@@ -62,8 +63,15 @@ pub fn first_of_size(description: &[u8], shape: Shape) -> Option<Packed>
 pub fn first_up_to(description: &[u8], most: Shape) -> Option<Packed>
     ensures { FirstUpTo description.now most.relations most.size.things result }
 {
-    (0..most.size.things + 1).find_map(|things| {
-        let shape = Shape::new(most.relations, things)?;
-        first_of_size(description, shape)
-    })
+    (0..most.size.things + 1).find_map(
+        |things|
+            requires { (things ≤ 8) × (most.relations ≤ 8) }
+        {
+            let shape = Shape {
+                relations: most.relations,
+                size: Size { things },
+            };
+            first_of_size(description, shape)
+        },
+    )
 }

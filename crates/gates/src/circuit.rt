@@ -1,6 +1,7 @@
 // Gate k is the variable base + k, and three words, p, x and y: it is true where p is, or x and y.
 // The variables below base are inputs; variable 0 is true, so the literals 0 and 1 are the constants.
 // A claim is three literals of which one must be true.
+// Words three by three, and counts of them: the memory is lent, as words.
 ghost use Rattle.gates.specs.Words.{Sound};
 
 use crate::folding::Inputs;

@@ -1,5 +1,6 @@
 // The clauses of a circuit: variable 0 is true; for each gate o of p, x and y the four clauses
 // (¬p o) (¬x ¬y o) (¬o p x) (¬o p y), which say that o is its value; and the claims as they are.
+// Each function asks that the store knows the variables: circuit and store are made apart, and neither holds the other.
 ghost use Rattle.std.specs.Prelude.{◌≡◌, ◌+◌, ◌*◌, ◌/◌, ◌<◌, ◌≤◌, true, [], length};
 ghost use Rattle.clauses.specs.Formulas.{value};
 ghost use Rattle.clauses.specs.Stores.{Known};

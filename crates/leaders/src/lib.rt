@@ -1,6 +1,7 @@
 // Symmetry breaking: of the pictures that differ only by what things are called, clauses leave few but the first.
 // For a transposition of things, a chain of gates and claims says that a picture does not come after itself with the two
 // things changed about.
+// Each function asks that the picture's bits are inputs: the circuit is lent, and knows no shape.
 #![tactic(auto)]
 
 ghost use Rattle.std.specs.Prelude.{◌≡◌, ◌+◌, ◌*◌, ◌<◌, ◌≤◌, ◌⊎◌, true, false, is_some};

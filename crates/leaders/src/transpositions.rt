@@ -30,16 +30,15 @@ impl Transposition {
     }
 
     // The place whose bit comes to a place.
-    pub fn source_of(self, place: usize, shape: Shape) -> usize
+    pub(crate) fn source_of(self, place: usize, shape: Shape) -> usize
         requires low { place < shape.relations * (shape.size.things * shape.size.things) }
         requires inside { self.other < shape.size.things }
         ensures { result ≡ source shape.size.things (swap self.one self.other) place }
     {
-        let things = shape.size.things;
         let spot = shape.spot_at(place);
         let pair = shape.size.pair_at(spot.place);
         let first = self.of(pair.first);
         let second = self.of(pair.second);
-        (spot.relation * things + first) * things + second
+        spot.relation * shape.size.pairs() + shape.size.place_of(first, second)
     }
 }

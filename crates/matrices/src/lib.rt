@@ -1,5 +1,6 @@
 // Boolean matrices: a relation between at most eight things in a 64-bit word, with what the
 // operators of descriptions make of one or two of them.
+// A word stands beside its size: two words share one, and so do the eight words of a picture.
 #![tactic(auto)]
 
 ghost use Rattle.std.specs.Prelude.{◌≡◌, ℕ, ◌<◌, not, ◌&&◌, ◌||◌, if◌then◌else◌, ◌==◌, nat_eq};
@@ -10,6 +11,7 @@ ghost use Rattle.matrices.specs.Words.{bit, matrix, Shows};
 use descriptions::{Binary, Size, Unary};
 
 // Whether the bit at a place is 1.
+// A place below 64 is what a shift asks for, here and in the two functions that follow.
 pub fn is_set(word: u64, place: usize) -> bool
     requires { place < 64 }
     ensures { result ≡ bit word place }
@@ -38,7 +40,7 @@ pub fn has(word: u64, size: Size, first: usize, second: usize) -> bool
     requires { (first < size.things) × (second < size.things) }
     ensures { result ≡ matrix size.things word first second }
 {
-    is_set(word, first * size.things + second)
+    is_set(word, size.place_of(first, second))
 }
 
 // The word with the bits of the pairs that are wanted.

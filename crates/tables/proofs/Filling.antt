@@ -1,7 +1,7 @@
 -- Places of pairs, chains of gates, and tables filled place by place.
-use Rattle.std.proofs.Common.{◌≡◌, ℕ, zero, suc, ◌+◌, ◌*◌, ◌/◌, ◌%◌, ◌<◌, ◌≤◌, Bool, true, false, not, ◌&&◌, ◌||◌, ◌⊎◌, List, get_or, set, Some, None, Option, sym, refl, ap, ◌∙◌, subst, inl, inr, mul-le-mul_right, add-mul, one-mul, add-one, arith, length-set}
+use Rattle.std.proofs.Common.{◌≡◌, ℕ, zero, suc, ◌+◌, ◌*◌, ◌/◌, ◌%◌, ◌<◌, ◌≤◌, Bool, true, false, not, ◌&&◌, ◌||◌, ◌⊎◌, List, ◌++◌, length, get_or, set, Some, None, Option, sym, refl, ap, ◌∙◌, subst, inl, inr, mul-le-mul_right, add-mul, one-mul, add-one, arith}
 use Rattle.std.proofs.lemmas.Nat.{div-mul-add, mod-mul-add, div_below, mod_below, mul-add-lt, div-add-mod'}
-use Rattle.std.proofs.lemmas.List.{get_or-set_same, get_or-set_other}
+use Rattle.std.proofs.lemmas.List.{get_or-set_same, get_or-set_other, get_or_append_left}
 use Rattle.std.proofs.lemmas.Bool.{cases_lt}
 use Rattle.descriptions.specs.declared.shapes.Pair.{Pair}
 use Rattle.descriptions.specs.Shapes.{PairAt}
@@ -14,7 +14,7 @@ use Rattle.gates.specs.Words.{mix, Goes, Grows, Adds, Gives}
 use Rattle.gates.specs.Circuits.{GoesC, GivesC, Full, Came}
 use Rattle.gates.proofs.Literals.{value_false}
 use Rattle.gates.proofs.Gates.{gives_still, grows_on}
-use Rattle.tables.specs.Tables.{shown, Filled, Shows, ShowsC, Upto}
+use Rattle.tables.specs.Tables.{shown, Filled, Shows, ShowsC}
 
 -- places
 pub place_lt : (m i j : ℕ) → i < m → j < m → i * m + j < m * m
@@ -82,24 +82,35 @@ pub chain_on : {b : ℕ} {g : List ℕ} {n : ℕ} {t : List ℕ} {c : ℕ} {b' :
 chain_on k p x y l f r u e w =
     record { low = w.low; is = λ α o. w.is α o ∙ ap (λ (z : Bool). value α p || z) (e α o) ∙ ap (λ (z : Bool). z || f α k) ((gives_still r u).is α o) ∙ or_swap (any k (f α)) (f α k) ∙ sym (ap (λ (z : ℕ). any z (f α)) (add-one k)) }
 
+-- a table that is made up to a place
+abbrev pub Upto : ℕ → List ℕ → ℕ → ℕ → List ℕ → (ℕ → Assignment → Bool) → Type 0
+Upto b g n at u f = (k : ℕ) → k < at → Gives b g n (get_or u k 0) (f k)
+
+abbrev pub UptoC : Circuit → ℕ → List ℕ → (ℕ → Assignment → Bool) → Type 0
+UptoC c at u f = Upto c.base c.words.now c.count at u f
+
 -- place by place
 module _ (f : ℕ → Assignment → Bool) where
-  pub upto_put : {b : ℕ} {g : List ℕ} {n : ℕ} {t : List ℕ} {c : ℕ} {b' : ℕ} {g' : List ℕ} {n' : ℕ} {t' : List ℕ} {c' : ℕ} (at : ℕ) (u : List ℕ) (l : ℕ) → Grows b g n t c b' g' n' t' c' → at < 64 → Upto b g n at u f → Gives b' g' n' l (f at) → Upto b' g' n' (at + 1) (set u at l) f
-  upto_put {b} {g} {n} {t} {c} {b'} {g'} {n'} {t'} {c'} at u l r lt p w = record { long = length-set u at l ∙ p.long; each = λ k h. go k h (cases_lt k at) }
+  pub upto_put : {b : ℕ} {g : List ℕ} {n : ℕ} {t : List ℕ} {c : ℕ} {b' : ℕ} {g' : List ℕ} {n' : ℕ} {t' : List ℕ} {c' : ℕ} (at : ℕ) (u : List ℕ) (l : ℕ) → Grows b g n t c b' g' n' t' c' → at < length u → Upto b g n at u f → Gives b' g' n' l (f at) → Upto b' g' n' (at + 1) (set u at l) f
+  upto_put {b} {g} {n} {t} {c} {b'} {g'} {n'} {t'} {c'} at u l r lt p w k h = go k h (cases_lt k at)
     where
       go : (k : ℕ) → k < at + 1 → (k < at) ⊎ (at ≤ k) → Gives b' g' n' (get_or (set u at l) k 0) (f k)
-      go k h (inl x) = subst (λ (z : ℕ). Gives b' g' n' z (f k)) (sym (get_or-set_other u at k l 0 (omega arith))) (gives_still r (p.each k x))
+      go k h (inl x) = subst (λ (z : ℕ). Gives b' g' n' z (f k)) (sym (get_or-set_other u at k l 0 (omega arith))) (gives_still r (p k x))
       go k h (inr x) =
           let e : at ≡ k = omega arith in
-          subst (λ (z : ℕ). Gives b' g' n' (get_or (set u at l) z 0) (f z)) e (subst (λ (z : ℕ). Gives b' g' n' z (f at)) (sym (get_or-set_same u at l 0 (omega (arith, p.long)))) w)
+          subst (λ (z : ℕ). Gives b' g' n' (get_or (set u at l) z 0) (f z)) e (subst (λ (z : ℕ). Gives b' g' n' z (f at)) (sym (get_or-set_same u at l 0 lt)) w)
 
-pub upto_all : (b : ℕ) (g : List ℕ) (n m at : ℕ) (u : List ℕ) (r : Assignment → Relation) → m * m ≤ at → Upto b g n at u (λ k α. r α (k / m) (k % m)) → Shows b g n m u r
+-- a table that is made up to the last pair, and what stands behind it
+pub upto_all : (b : ℕ) (g : List ℕ) (n m at : ℕ) (u rest : List ℕ) (r : Assignment → Relation) → m * m ≤ at → at ≤ length u → Upto b g n at u (λ k α. r α (k / m) (k % m)) → Shows b g n m (u ++ rest) r
 unfolding shown
-upto_all b g n m at u r h p =
+upto_all b g n m at u rest r h long p =
     record {
-      filled = record { low = λ i j hi hj. (p.each (i * m + j) (omega (arith, place_lt m i j hi hj))).low };
-      is = λ α o i j hi hj. (let q = place_lt m i j hi hj in (p.each (i * m + j) (omega (arith, q))).is α o ∙ rw (div-mul-add i m j hj, mod-mul-add i m j hj) refl);
+      filled = record { low = λ i j hi hj. (each i j hi hj).low };
+      is = λ α o i j hi hj. (each i j hi hj).is α o ∙ rw (div-mul-add i m j hj, mod-mul-add i m j hj) refl;
     }
+  where
+    each : (i j : ℕ) → i < m → j < m → Gives b g n (get_or (u ++ rest) (i * m + j) 0) (λ α. r α ((i * m + j) / m) ((i * m + j) % m))
+    each i j hi hj = let q = place_lt m i j hi hj in rw (get_or_append_left u rest 0 (i * m + j) (omega arith)) (p (i * m + j) (omega arith))
 
 -- some pair, row by row
 any_square : (m : ℕ) (f : ℕ → ℕ → Bool) → any (m * m) (λ k. f (k / m) (k % m)) ≡ any m (λ i. any m (λ j. f i j))

@@ -1,5 +1,5 @@
 -- Relations between at most eight things as tables of literals, a row after the other.
-use Rattle.std.specs.Prelude.{◌≡◌, ℕ, ◌+◌, ◌*◌, ◌<◌, Bool, List, length, slice_index}
+use Rattle.std.specs.Prelude.{◌≡◌, ℕ, ◌+◌, ◌*◌, ◌<◌, List, slice_index}
 use Rattle.descriptions.specs.declared.Unary.{Unary}
 use Rattle.descriptions.specs.declared.Unary.TheVariants as unary
 use Rattle.descriptions.specs.declared.Binary.{Binary}
@@ -7,7 +7,7 @@ use Rattle.descriptions.specs.declared.Binary.TheVariants as binary
 use Rattle.descriptions.specs.Pictures.{Relation}
 use Rattle.clauses.specs.Formulas.{Assignment, value}
 use Rattle.gates.specs.declared.circuit.Circuit.{Circuit}
-use Rattle.gates.specs.Words.{Goes, Gives}
+use Rattle.gates.specs.Words.{Goes}
 
 -- the relation that an assignment makes of a table
 unfoldable pub shown : Assignment → ℕ → List ℕ → Relation
@@ -22,19 +22,11 @@ pub record Shows (base : ℕ) (g : List ℕ) (n m : ℕ) (t : List ℕ) (r : Ass
   pub filled : Filled base n m t
   pub is : (α : Assignment) → Goes base g n α → (i j : ℕ) → i < m → j < m → shown α m t i j ≡ r α i j
 
--- it is filled up to a place
-pub record Upto (base : ℕ) (g : List ℕ) (n at : ℕ) (t : List ℕ) (f : ℕ → Assignment → Bool) : Type 0 where
-  pub long : length t ≡ 64
-  pub each : (k : ℕ) → k < at → Gives base g n (slice_index t k) (f k)
-
 abbrev pub FilledC : Circuit → ℕ → List ℕ → Type 0
 FilledC c m t = Filled c.base c.count m t
 
 abbrev pub ShowsC : Circuit → ℕ → List ℕ → (Assignment → Relation) → Type 0
 ShowsC c m t r = Shows c.base c.words.now c.count m t r
-
-abbrev pub UptoC : Circuit → ℕ → List ℕ → (ℕ → Assignment → Bool) → Type 0
-UptoC c at t f = Upto c.base c.words.now c.count at t f
 
 -- the literals of m things' pairs, place by place
 abbrev pub Are : ℕ → List ℕ → (ℕ → ℕ) → Type 0

@@ -1,5 +1,7 @@
 // What the operators make of tables: a gate, or a chain of gates, for each pair. 'Once or more often' goes by Floyd and
 // Warshall's loops: by way of one thing after the other, each pair once for each of them.
+// Which literals a table may have hangs on a circuit that grows: so functions ask for it, and not a type of tables.
+// That a pair is of the size's things is asked, too: a pair that says it would bring along a size of its own.
 ghost use Rattle.std.specs.Prelude.{ℕ, ◌*◌, ◌<◌, not, ◌&&◌, ◌||◌, ◌==◌};
 ghost use Rattle.descriptions.specs.Pictures.{Relation, any, compose, reach};
 ghost use Rattle.descriptions.specs.Meaning.{transform, combine};
@@ -26,8 +28,8 @@ fn all_pairs<F: Fn(&mut Circuit, Pair) -> Option<u32>>(
     ensures made { (cost : ℕ) (value : Assignment → Relation) → Makes circuit.old size.things (F.post literal) cost value → AddsC circuit.old circuit.new (size.things * size.things * cost) × Came circuit.new result (λ t. ShowsC circuit.new size.things t value) }
 {
     let mut table = [NEVER; 64];
-    for place in 0..size.pairs() {
-        table[place] = literal(circuit, size.pair_at(place))?;
+    for (place, entry) in table[..size.pairs()].iter_mut().enumerate() {
+        *entry = literal(circuit, size.pair_at(place))?;
     }
     Some(table)
 }

@@ -17,8 +17,8 @@ fn table_of<F: Fn(usize) -> u32>(size: Size, literal: F) -> [u32; 64]
     ensures { (k : ℕ) → k < size.things * size.things → F.post literal k (slice_index result k) }
 {
     let mut table = [NEVER; 64];
-    for place in 0..size.pairs() {
-        table[place] = literal(place);
+    for (place, entry) in table[..size.pairs()].iter_mut().enumerate() {
+        *entry = literal(place);
     }
     table
 }
@@ -63,7 +63,7 @@ pub fn literal_at(table: &[u32; 64], size: Size, first: usize, second: usize) ->
     requires { (first < size.things) × (second < size.things) }
     ensures { result ≡ slice_index table.now (first * size.things + second) }
 {
-    table[first * size.things + second]
+    table[size.place_of(first, second)]
 }
 
 // A relation turned round: the literals change places.

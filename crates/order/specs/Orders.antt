@@ -5,7 +5,7 @@ use Rattle.order.specs.Queues.{Queue}
 use Rattle.order.specs.Scores.{Score}
 
 abbrev pub queue_of : Inside → Queue
-queue_of o = record { variables = length o.scores.now; count = o.count; top = slice_index o.heap.now 0 }
+queue_of o = record { variables = length o.scores.now; count = o.count; top = slice_index o.heap.now 0; scores_name = o.scores.ghost_name; heap_name = o.heap.ghost_name; places_name = o.places.ghost_name }
 
 -- a heap of some of the variables: what stands in it are variables, and each variable has an activity and a place
 pub record Ordered (o : Inside) : Type 0 where

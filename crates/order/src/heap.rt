@@ -3,7 +3,7 @@
 // That heap and places agree is not proved: where a place is taken for an index, it is compared first.
 ghost use Rattle.std.specs.Prelude.{◌≡◌, ℕ, ◌+◌, ◌^◌, ◌<◌, ◌≤◌, length, slice_index};
 ghost use Rattle.order.specs.Scores.{Score};
-ghost use Rattle.order.specs.Queues.{Popped};
+ghost use Rattle.order.specs.Queues.{Kept, Popped};
 
 use super::score::{grown, shrunk, sum};
 use std::marker::Model;
@@ -104,7 +104,7 @@ impl Order<'_> {
     fn put(&mut self, at: usize, variable: u32)
         requires within { at < self.old.count }
         requires known { variable < self.old.variables }
-        ensures variables { self.new.variables ≡ self.old.variables }
+        ensures kept { Kept self.old self.new }
         ensures counted { self.new.count ≡ self.old.count }
     {
         // This opens the order, whose count bounds the place.
@@ -116,7 +116,7 @@ impl Order<'_> {
     // Moves the variable at a place up past all that are less active.
     fn rise(&mut self, from: usize)
         requires within { from < self.old.count }
-        ensures variables { self.new.variables ≡ self.old.variables }
+        ensures kept { Kept self.old self.new }
         ensures counted { self.new.count ≡ self.old.count }
     {
         prove!(from < self.count);
@@ -153,7 +153,7 @@ impl Order<'_> {
     // Moves the variable on top down past all that are more active.
     fn sink(&mut self)
         requires within { 0 < self.old.count }
-        ensures variables { self.new.variables ≡ self.old.variables }
+        ensures kept { Kept self.old self.new }
         ensures counted { self.new.count ≡ self.old.count }
     {
         let variable = self.heap[0];
@@ -175,7 +175,7 @@ impl Order<'_> {
     // length in place of a proof that no variable stands in it twice.
     pub fn insert(&mut self, variable: u32)
         requires known { variable < self.old.variables }
-        ensures variables { self.new.variables ≡ self.old.variables }
+        ensures kept { Kept self.old self.new }
         ensures counted { (self.old.count ≤ self.new.count) × (self.new.count ≤ self.old.count + 1) }
     {
         let at = self.count;
@@ -188,7 +188,7 @@ impl Order<'_> {
 
     // Takes the variable on top out, which is the most active.
     pub fn pop(&mut self) -> Option<u32>
-        ensures variables { self.new.variables ≡ self.old.variables }
+        ensures kept { Kept self.old self.new }
         ensures popped { Popped self.old self.new result }
     {
         if self.count == 0 {
@@ -206,7 +206,7 @@ impl Order<'_> {
 
     // Divides all activities and the step by the same number, which leaves their order as it is.
     fn rescale(&mut self)
-        ensures variables { self.new.variables ≡ self.old.variables }
+        ensures kept { Kept self.old self.new }
         ensures counted { self.new.count ≡ self.old.count }
     {
         shrink(self.scores);
@@ -216,7 +216,7 @@ impl Order<'_> {
     // Makes a variable more active by the step.
     pub fn bump(&mut self, variable: u32)
         requires known { variable < self.old.variables }
-        ensures variables { self.new.variables ≡ self.old.variables }
+        ensures kept { Kept self.old self.new }
         ensures counted { self.new.count ≡ self.old.count }
     {
         let score = sum(self.scores[variable as usize], self.step);
@@ -232,7 +232,7 @@ impl Order<'_> {
 
     // Makes what is bumped from now on count for more, which is to let all activities fade.
     pub fn decay(&mut self)
-        ensures variables { self.new.variables ≡ self.old.variables }
+        ensures kept { Kept self.old self.new }
         ensures counted { self.new.count ≡ self.old.count }
     {
         self.step = grown(self.step, PART);

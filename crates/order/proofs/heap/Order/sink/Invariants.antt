@@ -1,9 +1,10 @@
 use Rattle.std.proofs.Common.{◌≡◌, ◌-◌, ◌<◌}
+use Rattle.order.specs.Queues.{Kept}
 use Rattle.order.proofs.heap.Order.sink.Given as goal
 
 abbrev pub invariant-loop-at : goal.invariant-loop-at
 invariant-loop-at l = record {
-  variables : l.self.variables ≡ l.initial.self.variables;
+  kept : Kept l.initial.self l.self;
   counted : l.self.count ≡ l.initial.self.count;
   within : l.at < l.self.count;
   known : l.variable < l.self.variables;

@@ -236,6 +236,7 @@ impl Analysis<'_> {
         self.open = 0;
         self.absorb_clause(search, level, conflict as usize, NO_LITERAL)?;
         let trail = search.trail();
+        // by place, which is what comes back
         for place in (0..trail.len()).rev() {
             let literal = trail.literal(place);
             if self.seen[(literal / 2) as usize] == 1 {
@@ -326,6 +327,7 @@ impl Analysis<'_> {
         self.size = 0;
         let trail = search.trail();
         let mut last = None;
+        // by place, which is what comes back
         for place in 0..trail.len() {
             if !trail.is_decided(place) {
                 continue;

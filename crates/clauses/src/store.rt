@@ -122,6 +122,7 @@ impl Store<'_> {
         let words = &mut *self.words;
         let mut kept = 0;
         let mut written = 0;
+        // by number, since the spans change as they are gone through
         for number in 0..self.count {
             let from = spans[2 * number] as usize;
             let to = spans[2 * number + 1] as usize;

@@ -65,6 +65,7 @@ impl<'a> Model for Learner<'a> {
 // there is room for them.
 fn release(trail: &Trail, order: &mut Order, phases: &mut [u32], decided: usize, from: usize) {
     let known = decided.min(order.variables());
+    // by place, since the trail shows its literals one at a time
     for place in from..trail.len() {
         let literal = trail.literal(place);
         let variable = (literal / 2) as usize;

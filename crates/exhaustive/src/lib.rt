@@ -25,6 +25,7 @@ fn next_after(picture: &Packed) -> Option<Packed>
     ensures { Advanced picture.now result }
 {
     let mut words = picture.words;
+    // by place: a bit has a spot in the words
     for place in (0..picture.shape.bits()).rev() {
         let spot = picture.shape.spot_at(place);
         let word = words[spot.relation];

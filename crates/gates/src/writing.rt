@@ -41,6 +41,7 @@ impl Circuit<'_> {
         requires known { self.now.base + self.now.count ≤ store.old.variables }
         ensures { WritesIf store.old (4 * self.now.count) (11 * self.now.count) (Valued self.now.base self.now.words.now self.now.count) store.new result }
     {
+        // by number, which is the gate's variable too
         for gate in 0..self.count {
             let inputs = Inputs::at(self.words, gate);
             write_gate(store, (2 * (self.base + gate)) as u32, inputs)?;

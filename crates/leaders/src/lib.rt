@@ -46,6 +46,7 @@ pub fn chain(circuit: &mut Circuit, shape: Shape, swap: Transposition) -> Option
     ensures { Chains circuit.old shape.relations shape.size.things swap.one swap.other circuit.new (is_some result) }
 {
     let mut smaller: u32 = NEVER;
+    // by place, which is the bit's variable too
     for place in 0..shape.bits() {
         let there = swap.source_of(place, shape);
         if place < there {

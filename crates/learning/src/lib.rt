@@ -65,6 +65,7 @@ pub fn decision_above(search: &Search, clause: &[u32], literal: u32) -> usize
             at = at.max(standing + 1);
         }
     }
+    // by place, which is what comes back
     for place in at..search.trail().len() {
         if search.trail().is_decided(place) {
             return place;

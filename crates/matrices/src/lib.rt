@@ -49,6 +49,7 @@ fn word_of<F: Fn(usize, usize) -> bool>(size: Size, wanted: F) -> u64
     ensures { (i j : ℕ) → i < size.things → j < size.things → F.post wanted i j (matrix size.things result i j) }
 {
     let mut word = 0;
+    // by place, since a word is made bit by bit
     for place in 0..size.pairs() {
         let pair = size.pair_at(place);
         word = put(word, place, wanted(pair.first, pair.second));

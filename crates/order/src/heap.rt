@@ -123,6 +123,7 @@ impl Order<'_> {
         let variable = self.heap[from];
         let score = self.scores[variable as usize];
         let mut at = from;
+        // the place halves, as in any heap
         while at > 0 {
             let above = (at - 1) / 2;
             let other = self.heap[above];
@@ -159,6 +160,7 @@ impl Order<'_> {
         let variable = self.heap[0];
         let score = self.scores[variable as usize];
         let mut at = 0;
+        // and doubles here
         while 2 * at + 1 < self.count {
             let below = self.more_active(2 * at + 1);
             let other = self.heap[below];

@@ -93,6 +93,7 @@ fn enter_all(search: &mut Search) -> Result<(), NoModel>
     ensures none { OnErr result (NoneModels (formula_of search.old.trail)) }
 {
     let base = search.trail().problem().len();
+    // by number, by which a clause is watched
     for number in 0..base.min(0x4000_0000) {
         enter(search, number as u32)?;
     }

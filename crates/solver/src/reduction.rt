@@ -50,6 +50,7 @@ fn watch_all(search: &mut Search)
 {
     let base = search.trail().problem().len();
     let count = base.saturating_add(search.learned().len());
+    // by number, by which a clause is watched
     for number in 0..count.min(0x7fff_ffff) {
         watch(search, number as u32);
     }

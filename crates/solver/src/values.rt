@@ -57,6 +57,7 @@ fn are_satisfied(trail: &Trail, clauses: &Clauses) -> bool
     ensures yes { result ≡ true → AllSatisfied trail.now.values clauses.now.formula }
     ensures no { result ≡ false → SomeFalse (variables_of trail.now) trail.now.values clauses.now.formula }
 {
+    // by number, since clauses are seen one at a time
     for number in 0..clauses.len() {
         if !is_satisfied(trail, clauses.clause(number)) {
             return false;

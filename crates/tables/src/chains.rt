@@ -18,6 +18,7 @@ pub fn some_both<F: Fn(usize) -> (u32, u32)>(
     ensures came { (x y : ℕ → ℕ) → ((k : ℕ) (r : ℕ × ℕ) → k < count → F.post both k r → (r.0 ≡ x k) × (r.1 ≡ y k)) → Came circuit.new result (λ l. GivesC circuit.new l (λ α. any count (λ k. value α (x k) && value α (y k)))) }
 {
     let mut found = NEVER;
+    // by number, which the closure is asked for
     for number in 0..count {
         let (x, y) = both(number);
         found = circuit.gate(found, x, y)?;

@@ -148,14 +148,6 @@ pub fn flip_last(search: &mut Search) -> Result<(), NoModel>
     Ok(())
 }
 
-impl<'a> Learner<'a> {
-    pub fn search(&self) -> &Search<'a>
-        ensures { result.now ≡ self.now.search }
-    {
-        &self.search
-    }
-}
-
 impl Learner<'_> {
     // Has everything implied that the literals from a place of the trail on imply. The number of a clause
     // that is false, if there is one.

@@ -31,6 +31,7 @@ impl Uses<'_> {
         ensures clock { self.new.clock ≡ self.old.clock }
     {
         if let Some(clause) = (number as usize).checked_sub(base) {
+            // by index, so that the other words are known to stay
             if clause < self.last.len() {
                 self.last[clause] = self.clock;
             }

@@ -124,9 +124,9 @@ pub fn ask_stored(
     found
 }
 
-// Finds the first model of clauses by the variables of a range, which the values are then; but for a
-// model they are as they were. How many questions that took. The units get a clause for each variable of
-// the range.
+// Finds the first model of clauses by the variables of a range, given by its ends, of which promises speak.
+// The values are it then; but for a model they are as they were. How many questions that took. The units
+// get a clause for each variable of the range.
 pub fn first_stored(
     problem: Clauses,
     units: Store,

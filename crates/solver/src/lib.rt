@@ -148,11 +148,11 @@ fn seek(
                 return false;
             }
             pace.note_conflict();
-            level = learner.search().level_before();
-            start = learner.search().trail().len().saturating_sub(1);
+            level = learner.search.level_before();
+            start = learner.search.trail().len().saturating_sub(1);
             continue;
         }
-        let full = pace.is_full(learner.search().learned().len(), learner.counters.unkept);
+        let full = pace.is_full(learner.search.learned().len(), learner.counters.unkept);
         if (full | pace.is_over()) && restarts > 0 {
             restarts -= 1;
             start = start_again(learner, pace, full);
@@ -162,7 +162,7 @@ fn seek(
         match decide_on(learner, assumptions, force, guide) {
             Step::Refuted => {
                 if force == firm {
-                    pace.start = learner.search().trail().len();
+                    pace.start = learner.search.trail().len();
                     return false;
                 }
                 force = firm;
@@ -173,22 +173,22 @@ fn seek(
             Step::Decided => {
                 learner.search.keeps();
                 learner.search.trail().keeps();
-                start = learner.search().trail().len().saturating_sub(1);
-                level = learner.search().trail().len() as u32;
+                start = learner.search.trail().len().saturating_sub(1);
+                level = learner.search.trail().len() as u32;
                 continue;
             }
             Step::Complete => {}
         }
-        let found = is_model(learner.search().trail());
+        let found = is_model(learner.search.trail());
         if found {
-            pace.start = learner.search().trail().len();
+            pace.start = learner.search.trail().len();
             return true;
         }
         if learner.turn_round().is_err() {
             return false;
         }
-        level = learner.search().level_before();
-        start = learner.search().trail().len().saturating_sub(1);
+        level = learner.search.level_before();
+        start = learner.search.trail().len().saturating_sub(1);
     }
 }
 

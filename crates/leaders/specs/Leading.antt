@@ -73,12 +73,15 @@ CrowdedV n m gates claims t = (gates < t.count + 2 * (n * (m - 1))) ⊎ ((claims
 abbrev pub Crowded : ℕ → ℕ → ℕ → ℕ → Circuit → Type 0
 Crowded n m gates claims t = CrowdedV n m gates claims (view t)
 
--- pairs of things that change places: one pair, those so far apart, and each
+-- pairs of things that change places: one pair, those of a thing with some before it, neighbours, and each
 abbrev pub OnePair : ℕ → ℕ → ℕ → ℕ → Type 0
 OnePair one other a b = (a ≡ one) × (b ≡ other)
 
-abbrev pub Distant : ℕ → ℕ → ℕ → Type 0
-Distant distance a b = b ≡ a + distance
+abbrev pub Before : ℕ → ℕ → ℕ → ℕ → ℕ → Type 0
+Before other low high a b = (b ≡ other) × ((low ≤ a) × (a < high))
+
+abbrev pub Adjacent : ℕ → ℕ → Type 0
+Adjacent a b = b ≡ a + 1
 
 abbrev pub Each : ℕ → ℕ → Type 0
 Each a b = Unit {0}

@@ -6,7 +6,7 @@
 
 ghost use Rattle.std.specs.Prelude.{◌≡◌, ◌+◌, ◌*◌, ◌<◌, ◌≤◌, ◌⊎◌, true, false, is_some};
 ghost use Rattle.gates.specs.Circuits.{InC};
-ghost use Rattle.leaders.specs.Leading.{LinksIf, Chains, OnePair, Distant, Each, Leads};
+ghost use Rattle.leaders.specs.Leading.{LinksIf, Chains, OnePair, Before, Adjacent, Each, Leads};
 ghost use Rattle.leaders.specs.Breaking.{ChainsBreak};
 
 // Two things that change places, and which bit comes where.
@@ -90,35 +90,52 @@ fn lead_by(circuit: &mut Circuit, shape: Shape, limits: Limits, swap: Transposit
     limits.allow(circuit, links) && chain(circuit, shape, swap).is_some()
 }
 
-// Transpositions of things that are so far apart. Whether all are there.
-fn lead_apart(circuit: &mut Circuit, shape: Shape, limits: Limits, distance: usize) -> bool
+// Transpositions of a thing with those before it, from one on and below another. Whether all are there.
+fn lead_with(
+    circuit: &mut Circuit,
+    shape: Shape,
+    limits: Limits,
+    other: usize,
+    low: usize,
+    high: usize,
+) -> bool
     requires drawn { shape.relations * (shape.size.things * shape.size.things) < circuit.old.base }
-    requires some { 0 < distance }
-    requires inside { distance < shape.size.things }
-    ensures { Leads circuit.old shape.relations shape.size.things limits.gates limits.claims (Distant distance) circuit.new result }
+    requires before { high ≤ other }
+    requires inside { other < shape.size.things }
+    ensures { Leads circuit.old shape.relations shape.size.things limits.gates limits.claims (Before other low high) circuit.new result }
 {
     let mut all = true;
-    for one in 0..shape.size.things - distance {
-        let swap = Transposition {
-            one,
-            other: one + distance,
-        };
-        all &= lead_by(circuit, shape, limits, swap);
+    for one in low..high {
+        all &= lead_by(circuit, shape, limits, Transposition { one, other });
+    }
+    all
+}
+
+// Transpositions of neighbours. Whether all are there.
+fn lead_adjacent(circuit: &mut Circuit, shape: Shape, limits: Limits) -> bool
+    requires drawn { shape.relations * (shape.size.things * shape.size.things) < circuit.old.base }
+    ensures { Leads circuit.old shape.relations shape.size.things limits.gates limits.claims Adjacent circuit.new result }
+{
+    let mut all = true;
+    for other in 1..shape.size.things {
+        all &= lead_with(circuit, shape, limits, other, other - 1, other);
     }
     all
 }
 
 // Leaves out pictures that a transposition of things would bring forward, by as many chains as stay within so many gates
-// and claims in all. Those of neighbours come first: they leave out the most for what they cost. Whether all are there.
+// and claims in all. Those of neighbours come first: they leave out the most for what they cost. Then those of each thing
+// with the things before it: where they find no room, those of the first things are there. Whether all are there.
 pub fn lead(circuit: &mut Circuit, shape: Shape, limits: Limits) -> bool
     requires drawn { shape.relations * (shape.size.things * shape.size.things) < circuit.old.base }
     ensures { Leads circuit.old shape.relations shape.size.things limits.gates limits.claims Each circuit.new result }
 {
-    let mut all = true;
-    for distance in 1..shape.size.things {
-        all &= lead_apart(circuit, shape, limits, distance);
+    let adjacent = lead_adjacent(circuit, shape, limits);
+    let mut apart = true;
+    for other in 2..shape.size.things {
+        apart &= lead_with(circuit, shape, limits, other, 0, other - 1);
     }
-    all
+    adjacent & apart
 }
 
 // Theorem: of a circuit whose claims say that a picture is of a description, chains leave the first; and what they leave

@@ -1,12 +1,14 @@
 use Rattle.std.proofs.Common.{◌+◌, inl, inr, arith}
-use Rattle.std.proofs.lemmas.Bool.{cases_lt}
-use Rattle.leaders.proofs.Leading.{leads_on, leads_for}
+use Rattle.std.proofs.lemmas.Bool.{cases_eq}
+use Rattle.leaders.proofs.Leading.{leads_on}
 use Rattle.leaders.proofs.lead.Goals as goal
 
-pub loop-distance-preserved : goal.loop-distance-preserved
-loop-distance-preserved c =
-    leads_on _ _ _ _ _ _ _ _ _ _ _ _ c.loop-distance.invariant c.lead_apart-all.ensures
-    (λ a b ab bm pair. elim (cases_lt b (a + c.loop-distance.distance)) [ inl l ↦ inl l | inr l ↦ inr (omega (arith, pair, l)) ])
+pub loop-other-preserved : goal.loop-other-preserved
+loop-other-preserved c =
+    leads_on _ _ _ _ _ _ _ _ _ _ _ _ c.loop-other.invariant c.lead_with-apart.ensures
+    (λ a b ab bm pair. elim (cases_eq b c.loop-other.other) [ inl e ↦ inr (e, (omega arith, omega (arith, pair.0, e))) | inr e ↦ inl (pair.0, omega (arith, pair.1, e)) ])
 
 pub returns : goal.returns
-returns c = leads_for _ _ _ _ _ _ _ _ _ c.loop-distance.invariant (λ a b ab bm pair. omega arith)
+returns c =
+    leads_on _ _ _ _ _ _ _ _ _ _ _ _ c.lead_adjacent-adjacent.ensures c.loop-other.invariant
+    (λ a b ab bm pair. elim (cases_eq b (a + 1)) [ inl e ↦ inl e | inr e ↦ inr (omega (arith, ab, e), omega arith) ])

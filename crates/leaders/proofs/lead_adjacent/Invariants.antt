@@ -1,0 +1,6 @@
+use Rattle.std.proofs.Common.{◌≡◌, ◌+◌, ◌<◌}
+use Rattle.leaders.specs.Leading.{Leads}
+use Rattle.leaders.proofs.lead_adjacent.Given as goal
+
+abbrev pub invariant-loop-other : goal.invariant-loop-other
+invariant-loop-other l = Leads l.initial.circuit l.shape.relations l.shape.size.things l.limits.gates l.limits.claims (λ a b. (b ≡ a + 1) × (b < l.other)) l.circuit l.all

@@ -1,6 +1,0 @@
-use Rattle.std.proofs.Common.{◌≡◌, ◌+◌, ◌<◌}
-use Rattle.leaders.specs.Leading.{Leads}
-use Rattle.leaders.proofs.lead_apart.Given as goal
-
-abbrev pub invariant-loop-one : goal.invariant-loop-one
-invariant-loop-one l = Leads l.initial.circuit l.shape.relations l.shape.size.things l.limits.gates l.limits.claims (λ a b. (b ≡ a + l.distance) × (a < l.one)) l.circuit l.all

@@ -121,11 +121,29 @@ impl<'a> Analysis<'a> {
         ensures met { met_of result ≡ [] }
     {
         seen.fill(0);
+        Analysis::over(seen, touched, buffer, 0)
+    }
+
+    // So many variables that were marked stand in the memory already, with their marks: one who kept an
+    // analysis's memory takes it up again. Nothing is written, and no clause is learned yet.
+    pub fn over(
+        seen: &'a mut [u32],
+        touched: &'a mut [u32],
+        buffer: &'a mut [u32],
+        count: usize,
+    ) -> Analysis<'a>
+        requires { Noted (length seen.old) seen.old touched.old count }
+        ensures seen { result.seen ≡ seen.old }
+        ensures touched { result.touched ≡ touched.old }
+        ensures count { result.count ≡ count }
+        ensures buffer { result.buffer ≡ buffer.old }
+        ensures size { result.size ≡ 0 }
+    {
         Analysis {
             seen,
             touched,
             buffer,
-            count: 0,
+            count,
             open: 0,
             size: 0,
         }
@@ -322,6 +340,9 @@ impl Analysis<'_> {
         requires fits { Fits self.old search.now }
         requires jammed { Jammed search.now.trail }
         ensures seen { self.new.seen ≡ self.old.seen }
+        ensures touched { self.new.touched ≡ self.old.touched }
+        ensures count { self.new.count ≡ self.old.count }
+        ensures buffer { length self.new.buffer ≡ length self.old.buffer }
         ensures refused { RefusedIf search.now self.new result }
     {
         self.size = 0;

@@ -1,6 +1,6 @@
 // Clauses that are added one by one, in memory that is lent.
 ghost use Rattle.std.specs.Prelude.{◌≡◌, ◌*◌, ◌<◌, ◌≤◌, [], length, sum_by};
-ghost use Rattle.clauses.specs.Stores.{clause_at, Known, AddedIf, SameMemory};
+ghost use Rattle.clauses.specs.Stores.{clause_at, formula, Known, Stored, InOrder, AddedIf, SameMemory};
 ghost use Rattle.clauses.specs.Retaining.{SomeOf, Retains};
 
 use super::list::{Clauses, all_known};
@@ -52,6 +52,31 @@ impl<'a> Store<'a> {
             used: 0,
         }
     }
+
+    // So many clauses that stand in the memory already, in so many of its words: one who kept a store's
+    // memory takes it up again. Their spans may come in any order, and share words.
+    pub fn over(
+        variables: usize,
+        spans: &'a mut [u32],
+        words: &'a mut [u32],
+        count: usize,
+        used: usize,
+    ) -> Store<'a>
+        requires { Stored variables spans.old words.old count used }
+        ensures variables { result.variables ≡ variables }
+        ensures formula { result.formula ≡ formula spans.old words.old count }
+        ensures used { result.used ≡ used }
+        ensures spans { result.spans ≡ spans.entry }
+        ensures words { result.words ≡ words.entry }
+    {
+        Store {
+            variables,
+            spans,
+            words,
+            count,
+            used,
+        }
+    }
 }
 
 impl Store<'_> {
@@ -83,9 +108,10 @@ impl Store<'_> {
         self.clauses().clause(number)
     }
 
-    // Adds a clause; where it is refused, nothing changes.
+    // Adds a clause, or refuses it and changes nothing.
     pub fn add(&mut self, clause: &[u32]) -> Result<(), Unfit>
-        ensures { AddedIf clause.now self.old self.new result }
+        ensures added { AddedIf clause.now self.old self.new result }
+        ensures in_order { InOrder self.old.spans.now (length self.old.formula) → InOrder self.new.spans.now (length self.new.formula) }
     {
         if !all_known(clause, self.variables) {
             return Err(Unfit::Literal);
@@ -107,11 +133,13 @@ impl Store<'_> {
         Ok(())
     }
 
-    // Keeps the clauses that are wanted, in their order, and moves them together. Each is asked about once,
-    // in order, with its number.
+    // Keeps the clauses that are wanted, in their order, and moves them together. Where they are in order,
+    // each is asked about once, in turn, with its number. One that begins before the end of what has been
+    // moved, as only others can, is not asked about and not kept.
     pub fn retain<F: FnMut(usize, &[u32]) -> bool>(&mut self, mut wants: F)
         requires { F.IsAlwaysCallable wants }
-        ensures wanted { Retains F.FnMut wants self.old.formula self.new.formula }
+        ensures wanted { InOrder self.old.spans.now (length self.old.formula) → Retains F.FnMut wants self.old.formula self.new.formula }
+        ensures in_order { InOrder self.new.spans.now (length self.new.formula) }
         ensures some { SomeOf self.old.formula self.new.formula }
         ensures fewer { length self.new.formula ≤ length self.old.formula }
         ensures memory { SameMemory self.old self.new }
@@ -126,7 +154,10 @@ impl Store<'_> {
         for number in 0..self.count {
             let from = spans[2 * number] as usize;
             let to = spans[2 * number + 1] as usize;
-            prove!(written <= from);
+            // its literals may be overwritten
+            if from < written {
+                continue;
+            }
             prove!(from <= to);
             prove!(to <= words.len());
             if wants(number, &words[from..to]) {

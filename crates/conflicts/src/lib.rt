@@ -3,17 +3,17 @@
 // refuses all decisions serves: it turns the last decision round.
 #![tactic(auto)]
 
-ghost use Rattle.std.specs.Prelude.{◌≡◌, ℕ, ◌/◌, ◌<◌, ◌≤◌, length, IfSome, OnOk, OnErr};
+ghost use Rattle.std.specs.Prelude.{◌≡◌, ℕ, ◌+◌, ◌/◌, ◌<◌, ◌≤◌, min, length, IfSome, OnOk, OnErr};
 ghost use Rattle.std.specs.Option.{ForSome};
 ghost use Rattle.clauses.specs.Stores.{Known, Follows};
 ghost use Rattle.trail.specs.Views.{variables_of as variables_on};
 ghost use Rattle.trail.specs.Trails.{Jammed, Later, Falls, NoneModels, Rooted};
 ghost use Rattle.propagation.specs.Views.{variables_of, formula_of, numbers_of};
 ghost use Rattle.propagation.specs.Searching.{Same, Onward};
-ghost use Rattle.analysis.specs.Views.{clause_of};
+ghost use Rattle.analysis.specs.Views.{clause_of, SameMarks};
 ghost use Rattle.analysis.specs.Marking.{Fits};
 ghost use Rattle.learning.specs.Turning.{Taught};
-ghost use Rattle.conflicts.specs.Learning.{Turned};
+ghost use Rattle.conflicts.specs.Learning.{Turned, TrailAlone};
 
 use analysis::Analysis;
 use clauses::negated;
@@ -122,6 +122,7 @@ fn highest(search: &Search, clause: &[u32], literal: u32) -> u32
 fn watch_kept(search: &mut Search, clause: &[u32], one: u32, other: u32) -> Option<u32>
     requires { Follows (formula_of search.old) clause.now }
     ensures trail { search.new.trail ≡ search.old.trail }
+    ensures causes { search.new.causes ≡ search.old.causes }
     ensures small { ForSome result (λ number. number < 4294967295) }
 {
     let base = search.trail().problem().len();
@@ -142,6 +143,7 @@ pub fn flip_last(search: &mut Search) -> Result<(), NoModel>
     ensures later { Later search.old.trail search.new.trail }
     ensures less { OnOk result (Falls search.old.trail search.new.trail) }
     ensures none { OnErr result (NoneModels (formula_of search.old)) }
+    ensures watches { search.new.watches ≡ search.old.watches }
 {
     search.flip()?;
     search.settle(None);
@@ -154,6 +156,12 @@ impl Learner<'_> {
     pub fn propagate(&mut self, start: usize, level: u32) -> Option<u32>
         ensures onward { Onward self.old.search self.new.search }
         ensures conflict { IfSome result (λ clause. Jammed self.new.search.trail × (clause < numbers_of self.new.search)) }
+        ensures analysis { self.new.analysis ≡ self.old.analysis }
+        ensures uses { self.new.uses ≡ self.old.uses }
+        ensures decided { self.new.decided ≡ self.old.decided }
+        ensures order { self.new.order ≡ self.old.order }
+        ensures phases { self.new.phases ≡ self.old.phases }
+        ensures counters { self.new.counters ≡ self.old.counters }
     {
         self.search.propagate(start, level)
     }
@@ -161,19 +169,19 @@ impl Learner<'_> {
     // Counts a decision, a fresh start, and a time that clauses were forgotten: three of one line each, since
     // one for all would have to be told which counter it is about.
     pub fn note_decision(&mut self)
-        ensures { self.new ≡ self.old }
+        ensures { self.new ≡ record self.old { counters = record self.old.counters { decisions = min (self.old.counters.decisions + 1) 18446744073709551615 } } }
     {
         self.counters.decisions = self.counters.decisions.saturating_add(1);
     }
 
     pub fn note_restart(&mut self)
-        ensures { self.new ≡ self.old }
+        ensures { self.new ≡ record self.old { counters = record self.old.counters { restarts = min (self.old.counters.restarts + 1) 18446744073709551615 } } }
     {
         self.counters.restarts = self.counters.restarts.saturating_add(1);
     }
 
     pub fn note_reduction(&mut self)
-        ensures { self.new ≡ self.old }
+        ensures { self.new ≡ record self.old { counters = record self.old.counters { reductions = min (self.old.counters.reductions + 1) 18446744073709551615 } } }
     {
         self.counters.reductions = self.counters.reductions.saturating_add(1);
     }
@@ -186,6 +194,9 @@ impl Learner<'_> {
         ensures turned { Turned self.old.search self.new.search }
         ensures less { OnOk result (Falls self.old.search.trail self.new.search.trail) }
         ensures none { OnErr result (NoneModels (formula_of self.old.search)) }
+        ensures analysis { self.new.analysis ≡ self.old.analysis }
+        ensures uses { self.new.uses ≡ self.old.uses }
+        ensures decided { self.new.decided ≡ self.old.decided }
     {
         let literal = negated(self.search.trail().literal(place));
         let clause = self.analysis.clause();
@@ -218,6 +229,9 @@ impl Learner<'_> {
         ensures turned { Turned self.old.search self.new.search }
         ensures less { OnOk result (Falls self.old.search.trail self.new.search.trail) }
         ensures none { OnErr result (NoneModels (formula_of self.old.search)) }
+        ensures marks { SameMarks self.old.analysis self.new.analysis }
+        ensures uses { self.new.uses ≡ self.old.uses }
+        ensures decided { self.new.decided ≡ self.old.decided }
     {
         let Some(last) = self.analysis.refuse(&self.search) else {
             return flip_last(&mut self.search);
@@ -230,6 +244,7 @@ impl Learner<'_> {
     // round, or None where a step was not seen to be right.
     fn derive(&mut self, level: u32, conflict: u32) -> Option<usize>
         ensures search { self.new.search ≡ self.old.search }
+        ensures decided { self.new.decided ≡ self.old.decided }
         ensures clause { IfSome result (λ place. Taught self.new.search (clause_of self.new.analysis) × (place < self.new.search.trail.len)) }
     {
         self.analysis.clear();
@@ -247,6 +262,7 @@ impl Learner<'_> {
         ensures turned { Turned self.old.search self.new.search }
         ensures less { OnOk result (Falls self.old.search.trail self.new.search.trail) }
         ensures none { OnErr result (NoneModels (formula_of self.old.search)) }
+        ensures decided { self.new.decided ≡ self.old.decided }
     {
         self.counters.conflicts = self.counters.conflicts.saturating_add(1);
         match self.derive(level, conflict) {
@@ -260,6 +276,9 @@ impl Learner<'_> {
         ensures same { Same self.old.search self.new.search }
         ensures rooted { Rooted self.new.search.trail.marks self.new.search.trail.len }
         ensures len { self.new.search.trail.len ≡ result }
+        ensures causes { self.new.search.causes ≡ self.old.search.causes }
+        ensures alone { TrailAlone self.old self.new }
+        ensures counters { self.new.counters ≡ self.old.counters }
     {
         let root = self.search.trail().first_decision();
         release(

@@ -30,14 +30,15 @@ fn literal_at(values: &[u32], place: usize) -> u32
 // Asks for a model that is false at a variable where the one that is held is true; it is held then.
 // How many questions that took.
 fn lower(solver: &mut Solver, place: usize, values: &mut [u32]) -> usize
-    requires size { length values.old ≡ variables_of solver.old }
-    requires place { place < variables_of solver.old }
-    requires few { variables_of solver.old < 2147483647 }
-    requires model { Models (formula_of solver.old) (assignment values.old) }
-    ensures clauses { SameClauses solver.old solver.new }
-    ensures model { Models (formula_of solver.new) (assignment values.new) }
-    ensures lowest { Lowest (formula_of solver.new) (assignment values.new) place }
+    requires size { length values.old ≡ variables_of solver.old.trail }
+    requires place { place < variables_of solver.old.trail }
+    requires few { variables_of solver.old.trail < 2147483647 }
+    requires model { Models (formula_of solver.old.trail) (assignment values.old) }
+    ensures clauses { SameClauses solver.old.trail solver.new.trail }
+    ensures model { Models (formula_of solver.new.trail) (assignment values.new) }
+    ensures lowest { Lowest (formula_of solver.new.trail) (assignment values.new) place }
     ensures few { result ≤ 1 }
+    ensures decided { solver.new.decided ≡ solver.old.decided }
 {
     if values[place] != 1 {
         return 0;
@@ -52,16 +53,17 @@ fn lower(solver: &mut Solver, place: usize, values: &mut [u32]) -> usize
 // From a model that is lowest at the first variable of a range: settles one variable after the other.
 // How many questions that took. Fixing fails only where there is no model, but one is held.
 fn descend(solver: &mut Solver, low: usize, high: usize, values: &mut [u32]) -> usize
-    requires size { length values.old ≡ variables_of solver.old }
-    requires few { variables_of solver.old < 2147483647 }
-    requires range { (low < high) × (high ≤ variables_of solver.old) }
-    requires units { Room solver.old.units (high - low) }
-    requires model { Models (formula_of solver.old) (assignment values.old) }
-    requires lowest { Lowest (formula_of solver.old) (assignment values.old) low }
-    ensures first { FirstModel (formula_of solver.old) (assignment values.new) low high }
+    requires size { length values.old ≡ variables_of solver.old.trail }
+    requires few { variables_of solver.old.trail < 2147483647 }
+    requires range { (low < high) × (high ≤ variables_of solver.old.trail) }
+    requires units { Room solver.old.trail.units (high - low) }
+    requires model { Models (formula_of solver.old.trail) (assignment values.old) }
+    requires lowest { Lowest (formula_of solver.old.trail) (assignment values.old) low }
+    ensures first { FirstModel (formula_of solver.old.trail) (assignment values.new) low high }
     ensures questions { result + 1 ≤ high - low }
-    ensures problem { solver.new.problem ≡ solver.old.problem }
-    ensures grown { Grown solver.old.units solver.new.units }
+    ensures problem { solver.new.trail.problem ≡ solver.old.trail.problem }
+    ensures grown { Grown solver.old.trail.units solver.new.trail.units }
+    ensures decided { solver.new.decided ≡ solver.old.decided }
 {
     let _ = solver.fix(literal_at(values, low));
     let mut questions = 0;
@@ -80,13 +82,14 @@ pub fn first_model(
     high: usize,
     values: &mut [u32],
 ) -> Option<usize>
-    requires size { length values.old ≡ variables_of solver.old }
-    requires few { variables_of solver.old < 2147483647 }
-    requires range { high ≤ variables_of solver.old }
-    requires units { Room solver.old.units (high - low) }
-    ensures says { FirstSays (formula_of solver.old) low high values.old values.new result }
-    ensures problem { solver.new.problem ≡ solver.old.problem }
-    ensures grown { Grown solver.old.units solver.new.units }
+    requires size { length values.old ≡ variables_of solver.old.trail }
+    requires few { variables_of solver.old.trail < 2147483647 }
+    requires range { high ≤ variables_of solver.old.trail }
+    requires units { Room solver.old.trail.units (high - low) }
+    ensures says { FirstSays (formula_of solver.old.trail) low high values.old values.new result }
+    ensures problem { solver.new.trail.problem ≡ solver.old.trail.problem }
+    ensures grown { Grown solver.old.trail.units solver.new.trail.units }
+    ensures decided { solver.new.decided ≡ solver.old.decided }
 {
     if low >= high {
         if !solver.solve_under(&[], 0, Guide::Activity) {

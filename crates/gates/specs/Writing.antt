@@ -4,7 +4,7 @@ use Rattle.clauses.specs.declared.store.Unfit.{Unfit}
 use Rattle.clauses.specs.declared.store.Unfit.TheVariants as unfit
 use Rattle.clauses.specs.Formulas.{Assignment, value, Models}
 use Rattle.clauses.specs.Views.{StoreView}
-use Rattle.clauses.specs.Stores.{SameMemory}
+use Rattle.clauses.specs.Stores.{SameMemory, InOrder}
 use Rattle.gates.specs.declared.circuit.Circuit.{Circuit}
 use Rattle.gates.specs.Words.{output}
 use Rattle.gates.specs.Views.{CircuitView, view, GoesV, MeetsV}
@@ -36,6 +36,10 @@ Refused s clauses literals unfit.Room = Room s clauses literals → ⊥
 abbrev pub WritesIf : StoreView → ℕ → ℕ → (Assignment → Type 0) → StoreView → Result (Unit {0}) Unfit → Type 0
 WritesIf s clauses literals Q t (Ok _) = Writes s clauses literals Q t
 WritesIf s clauses literals Q t (Err e) = Refused s clauses literals e
+
+-- where the spans of a store's clauses are in order, those of the other one are; refused or not
+abbrev pub StaysInOrder : StoreView → StoreView → Type 0
+StaysInOrder s t = InOrder s.spans.now (length s.formula) → InOrder t.spans.now (length t.formula)
 
 -- the first n gates have their values
 abbrev pub Valued : ℕ → List ℕ → ℕ → Assignment → Type 0

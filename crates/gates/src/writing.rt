@@ -5,7 +5,7 @@ ghost use Rattle.std.specs.Prelude.{◌≡◌, ◌+◌, ◌*◌, ◌/◌, ◌<�
 ghost use Rattle.clauses.specs.Formulas.{value};
 ghost use Rattle.clauses.specs.Stores.{Known};
 ghost use Rattle.gates.specs.Words.{mix, Meets};
-ghost use Rattle.gates.specs.Writing.{satisfied, WritesIf, WrittenIf, Valued};
+ghost use Rattle.gates.specs.Writing.{satisfied, StaysInOrder, WritesIf, WrittenIf, Valued};
 
 use crate::circuit::Circuit;
 use crate::folding::{ALWAYS, Inputs};
@@ -14,7 +14,8 @@ use clauses::{Store, Unfit, negated};
 // One clause.
 fn write_clause(store: &mut Store, clause: &[u32]) -> Result<(), Unfit>
     requires { Known store.old.variables clause.now }
-    ensures { WritesIf store.old 1 (length clause.now) (λ α. satisfied α clause.now ≡ true) store.new result }
+    ensures writes { WritesIf store.old 1 (length clause.now) (λ α. satisfied α clause.now ≡ true) store.new result }
+    ensures in_order { StaysInOrder store.old store.new }
 {
     store.add(clause)
 }
@@ -25,7 +26,8 @@ fn write_gate(store: &mut Store, gate: u32, inputs: Inputs) -> Result<(), Unfit>
     requires p { inputs.p / 2 < store.old.variables }
     requires x { inputs.x / 2 < store.old.variables }
     requires y { inputs.y / 2 < store.old.variables }
-    ensures { WritesIf store.old 4 11 (λ α. value α gate ≡ mix α inputs.p inputs.x inputs.y) store.new result }
+    ensures writes { WritesIf store.old 4 11 (λ α. value α gate ≡ mix α inputs.p inputs.x inputs.y) store.new result }
+    ensures in_order { StaysInOrder store.old store.new }
 {
     let Inputs { p, x, y } = inputs;
     let not = negated(gate);
@@ -39,7 +41,8 @@ impl Circuit<'_> {
     // The clauses of the gates.
     fn write_gates(&self, store: &mut Store) -> Result<(), Unfit>
         requires known { self.now.base + self.now.count ≤ store.old.variables }
-        ensures { WritesIf store.old (4 * self.now.count) (11 * self.now.count) (Valued self.now.base self.now.words.now self.now.count) store.new result }
+        ensures writes { WritesIf store.old (4 * self.now.count) (11 * self.now.count) (Valued self.now.base self.now.words.now self.now.count) store.new result }
+        ensures in_order { StaysInOrder store.old store.new }
     {
         // by number, which is the gate's variable too
         for gate in 0..self.count {
@@ -52,7 +55,8 @@ impl Circuit<'_> {
     // The claims.
     fn write_claims(&self, store: &mut Store) -> Result<(), Unfit>
         requires known { self.now.base + self.now.count ≤ store.old.variables }
-        ensures { WritesIf store.old self.now.claimed (3 * self.now.claimed) (Meets self.now.claims.now self.now.claimed) store.new result }
+        ensures writes { WritesIf store.old self.now.claimed (3 * self.now.claimed) (Meets self.now.claims.now self.now.claimed) store.new result }
+        ensures in_order { StaysInOrder store.old store.new }
     {
         for claim in self.claims[..3 * self.claimed].chunks_exact(3) {
             write_clause(store, claim)?;
@@ -64,7 +68,8 @@ impl Circuit<'_> {
     pub fn write(&self, store: &mut Store) -> Result<(), Unfit>
         requires known { self.now.base + self.now.count ≤ store.old.variables }
         requires empty { (store.old.formula ≡ []) × (store.old.used ≡ 0) }
-        ensures { WrittenIf self.now store.old store.new result }
+        ensures written { WrittenIf self.now store.old store.new result }
+        ensures in_order { StaysInOrder store.old store.new }
     {
         write_clause(store, &[ALWAYS])?;
         self.write_gates(store)?;

@@ -1,7 +1,7 @@
 // What is learned must be forgotten again, since memory is bounded and every clause that is kept costs
 // time. The half that is kept are the clauses that are short and took part lately. Nothing rests on
 // the choice: what is kept follows as before, and what is forgotten is only no longer there.
-ghost use Rattle.std.specs.Prelude.{◌≡◌, ◌+◌, ◌≤◌, length, min, slice_index};
+ghost use Rattle.std.specs.Prelude.{◌≡◌, ℕ, ◌+◌, ◌≤◌, length, min, slice_index};
 ghost use Rattle.learning.specs.Using.{noted_at};
 ghost use Rattle.clauses.specs.Stores.{SameMemory};
 ghost use Rattle.clauses.specs.Retaining.{SomeOf};
@@ -13,6 +13,15 @@ use propagation::Search;
 pub struct Uses<'a> {
     pub last: &'a mut [u32],
     pub clock: u32,
+}
+
+// How little a clause is worth: how many conflicts ago it last took part, times its length. One of at
+// most two literals is always worth keeping.
+fn weight(last: u32, clock: u32, size: usize) -> u64 {
+    if size <= 2 {
+        return 0;
+    }
+    (clock.saturating_sub(last) as u64).saturating_mul(size as u64)
 }
 
 impl Uses<'_> {
@@ -45,20 +54,17 @@ impl Uses<'_> {
         self.last.get(clause).copied().unwrap_or(0)
     }
 
-    // How little a clause is worth: how many conflicts ago it last took part, times its length. One of at
-    // most two literals is always worth keeping.
-    fn weight(&self, clause: usize, size: usize) -> u64 {
-        if size <= 2 {
-            return 0;
-        }
-        (self.clock.saturating_sub(self.last_of(clause)) as u64).saturating_mul(size as u64)
-    }
-
     // How many learned clauses weigh at most so much.
     fn count_up_to(&self, search: &Search, most: u64) -> usize {
         let learned = search.learned();
         (0..learned.len())
-            .filter(|number| self.weight(*number, learned.clause(*number).len()) <= most)
+            .filter(|number| {
+                weight(
+                    self.last_of(*number),
+                    self.clock,
+                    learned.clause(*number).len(),
+                ) <= most
+            })
             .count()
     }
 
@@ -84,15 +90,23 @@ pub fn forget(search: &mut Search, uses: &mut Uses)
     ensures fewer { length search.new.learned.formula ≤ length search.old.learned.formula }
     ensures memory { SameMemory search.old.learned search.new.learned }
     ensures trail { search.new.trail ≡ search.old.trail }
+    ensures causes { search.new.causes ≡ search.old.causes }
+    ensures heads { (l : ℕ) → slice_index search.new.watches.heads.now l ≡ 0 }
+    ensures links { search.new.watches.links.now ≡ search.old.watches.links.now }
+    ensures clock { uses.new.clock ≡ uses.old.clock }
+    ensures last { length uses.new.last.now ≡ length uses.old.last.now }
 {
     let limit = uses.median(search);
+    // the closure gets the words alone, so that the clock stays
+    let clock = uses.clock;
+    let last = &mut *uses.last;
     let mut kept: usize = 0;
     search.retain(|clause, literals| {
-        let wanted = uses.weight(clause, literals.len()) <= limit;
+        let taken = last.get(clause).copied().unwrap_or(0);
+        let wanted = weight(taken, clock, literals.len()) <= limit;
         if wanted {
-            let last = uses.last_of(clause);
-            if kept < uses.last.len() {
-                uses.last[kept] = last;
+            if clause < last.len() && kept < last.len() {
+                last[kept] = taken;
             }
             kept = kept.saturating_add(1);
         }

@@ -89,6 +89,8 @@ pub fn go_back(
     ensures later { Later search.old.trail search.new.trail }
     ensures less { OnOk result (Falls search.old.trail search.new.trail) }
     ensures none { OnErr result (NoneModels (formula_of search.old)) }
+    ensures causes { search.new.causes ≡ search.old.causes }
+    ensures watches { search.new.watches ≡ search.old.watches }
 {
     if decision <= place && place < search.trail().len() && search.trail().is_decided(decision) {
         let literal = negated(search.trail().literal(place));

@@ -89,6 +89,39 @@ impl<'a> Order<'a> {
             step: FIRST_STEP,
         }
     }
+
+    // Activities, a heap of so many variables and their places that stand in the memory already, and what
+    // is added to an activity now: one who kept an order's memory takes it up again. Nothing is written.
+    pub fn over(
+        scores: &'a mut [u32],
+        heap: &'a mut [u32],
+        places: &'a mut [u32],
+        count: usize,
+        step: u32,
+    ) -> Order<'a>
+        requires few { length scores.old < 2 ^ 31 }
+        requires heap_long { length heap.old ≡ length scores.old }
+        requires places_long { length places.old ≡ length scores.old }
+        requires counted { count ≤ length scores.old }
+        requires known { (k : ℕ) → k < count → slice_index heap.old k < length scores.old }
+        requires placed { (v : ℕ) → slice_index places.old v ≤ length scores.old }
+        requires scored { (v : ℕ) → Score (slice_index scores.old v) }
+        requires stepped { Score step }
+        ensures variables { result.variables ≡ length scores.old }
+        ensures count { result.count ≡ count }
+        ensures top { result.top ≡ slice_index heap.old 0 }
+        ensures scores_named { result.scores_name ≡ scores.entry.ghost_name }
+        ensures heap_named { result.heap_name ≡ heap.entry.ghost_name }
+        ensures places_named { result.places_name ≡ places.entry.ghost_name }
+    {
+        Order {
+            scores,
+            heap,
+            places,
+            count,
+            step,
+        }
+    }
 }
 
 impl Order<'_> {

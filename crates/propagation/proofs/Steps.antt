@@ -46,6 +46,8 @@ numbered_problem s number p c same inside is known =
     let l : length p.formula ≡ length s.trail.problem.formula = ap (λ x. length x.formula) same in
     record {
       inside = omega arith;
+      given = λ h. is ∙ ap (λ x. clause_at x.formula number) same;
+      taught = λ h. absurd (omega arith);
       known = subst (λ (x : ClausesView). Known x.variables c) same known;
       follows = subst (Follows (formula_of s)) (sym (is ∙ ap (λ x. clause_at x.formula number) same)) (own_first s.trail.problem.formula s.trail.units.formula number (omega arith));
     }
@@ -54,6 +56,8 @@ pub numbered_learned : (s : SearchView) (number base : ℕ) (c : List ℕ) → R
 numbered_learned s number base c ready same above inside is known =
     record {
       inside = omega arith;
+      given = λ h. absurd (omega arith);
+      taught = λ h. is ∙ ap (λ (b : ℕ). clause_at s.learned.formula (number - b)) same;
       known = subst (λ (v : ℕ). Known v c) ready.known known;
       follows = subst (Follows (formula_of s)) (sym is) (ready.sound (number - base) inside);
     }

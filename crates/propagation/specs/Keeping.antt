@@ -14,7 +14,7 @@ pub record Alike (c : CausesInside) : Type 0 where
   pub places : length c.places.now ≡ length c.reasons.now
 
 abbrev pub search_view : Inside → SearchView
-search_view s = record { trail = s.trail; causes = s.causes; learned = s.learned }
+search_view s = record { trail = s.trail; causes = s.causes; watches = s.watches; learned = s.learned }
 
 abbrev pub IsReady : Inside → Type 0
 IsReady s = Ready (search_view s)

@@ -1,6 +1,6 @@
 -- What every search keeps, and what its steps leave.
-use Rattle.std.specs.Prelude.{◌≡◌, ℕ, ◌<◌, List, length}
-use Rattle.clauses.specs.Stores.{Sound, Known, Follows}
+use Rattle.std.specs.Prelude.{◌≡◌, ℕ, ◌-◌, ◌<◌, ◌≤◌, List, length}
+use Rattle.clauses.specs.Stores.{clause_at, Sound, Known, Follows}
 use Rattle.trail.specs.Trails.{SameClauses, FallsOrStays, Later}
 use Rattle.propagation.specs.Views.{SearchView, variables_of, formula_of, numbers_of}
 
@@ -22,8 +22,10 @@ pub record Onward (s t : SearchView) : Type 0 where
   pub falls : FallsOrStays s.trail t.trail
   pub later : Later s.trail t.trail
 
--- a clause that follows, by its number
+-- a clause that follows, by its number: the problem's come first, and then those that were learned
 pub record Numbered (s : SearchView) (number : ℕ) (c : List ℕ) : Type 0 where
   pub inside : number < numbers_of s
+  pub given : number < length s.trail.problem.formula → c ≡ clause_at s.trail.problem.formula number
+  pub taught : length s.trail.problem.formula ≤ number → c ≡ clause_at s.learned.formula (number - length s.trail.problem.formula)
   pub known : Known (variables_of s) c
   pub follows : Follows (formula_of s) c

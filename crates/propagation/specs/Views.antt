@@ -1,6 +1,7 @@
 -- What callers see of causes and of a search.
 use Rattle.std.specs.Prelude.{ℕ, ◌+◌, List, length}
 use Rattle.clauses.specs.Views.{StoreView}
+use Rattle.propagation.specs.declared.watches.Watches.{Watches}
 use Rattle.trail.specs.Views.{TrailView, variables_of as variables_on, formula_of as formula_on}
 
 -- why each variable has its value: the clause that implied it plus one, or 0; at which level, and where on the trail
@@ -9,10 +10,10 @@ pub record CausesView : Type 0 where
   pub levels : List ℕ
   pub places : List ℕ
 
--- who watches which clause is not seen
 pub record SearchView : Type 0 where
   pub trail : TrailView
   pub causes : CausesView
+  pub watches : Watches
   pub learned : StoreView
 
 abbrev pub variables_of : SearchView → ℕ

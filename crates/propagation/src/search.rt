@@ -8,6 +8,7 @@ ghost use Rattle.clauses.specs.Retaining.{SomeOf};
 ghost use Rattle.trail.specs.Views.{variables_of as variables_on, formula_of as formula_on};
 ghost use Rattle.trail.specs.Trails.{IsTrueUnder, Jammed, Later, Falls, SameClauses, Forced, NoneModels};
 ghost use Rattle.propagation.specs.Settling.{level_below, SettledSays};
+ghost use Rattle.propagation.specs.Watching.{Attached};
 ghost use Rattle.propagation.specs.Looking.{LookSays, LookFinds, reason_word, NotedCause};
 ghost use Rattle.propagation.specs.Views.{variables_of, formula_of, numbers_of};
 ghost use Rattle.propagation.specs.Searching.{Ready, Same, Onward, Numbered};
@@ -89,6 +90,7 @@ impl<'a> Search<'a> {
         requires known { learned.variables ≡ variables_on trail }
         ensures trail { result.trail ≡ trail.entry }
         ensures causes { result.causes ≡ causes.entry }
+        ensures watches { result.watches ≡ watches.entry }
         ensures learned { result.learned ≡ learned.entry }
     {
         Search {
@@ -155,6 +157,7 @@ impl<'a> Search<'a> {
         ensures later { Later self.old.trail self.new.trail }
         ensures len { self.new.trail.len ≡ self.old.trail.len + 1 }
         ensures values { self.new.trail.values ≡ slice_set self.old.trail.values (literal / 2) (1 + literal % 2) }
+        ensures watches { self.new.watches ≡ self.old.watches }
     {
         let place = self.trail.len() as u32;
         self.causes
@@ -171,6 +174,7 @@ impl<'a> Search<'a> {
         ensures literals { self.new.trail.literals ≡ slice_set self.old.trail.literals self.old.trail.len literal }
         ensures marks { self.new.trail.marks ≡ slice_set self.old.trail.marks self.old.trail.len 1 }
         ensures len { self.new.trail.len ≡ self.old.trail.len + 1 }
+        ensures watches { self.new.watches ≡ self.old.watches }
     {
         let place = self.trail.len() as u32;
         self.causes
@@ -187,6 +191,9 @@ impl<'a> Search<'a> {
         ensures literals { self.new.trail.literals ≡ self.old.trail.literals }
         ensures marks { self.new.trail.marks ≡ self.old.trail.marks }
         ensures len { self.new.trail.len ≡ keep }
+        ensures freed { (q : ℕ) → keep ≤ q → q < self.old.trail.len → slice_index self.new.trail.values (slice_index self.old.trail.literals q / 2) ≡ 0 }
+        ensures causes { self.new.causes ≡ self.old.causes }
+        ensures watches { self.new.watches ≡ self.old.watches }
     {
         self.trail.pop_to(keep);
     }
@@ -201,6 +208,9 @@ impl<'a> Search<'a> {
         ensures same { Same self.old self.new }
         ensures less { Falls self.old.trail self.new.trail }
         ensures later { Later self.old.trail self.new.trail }
+        ensures len { self.new.trail.len ≡ decision + 1 }
+        ensures causes { self.new.causes ≡ self.old.causes }
+        ensures watches { self.new.watches ≡ self.old.watches }
     {
         self.trail.jump(decision, place);
     }
@@ -213,6 +223,8 @@ impl<'a> Search<'a> {
         ensures later { Later self.old.trail self.new.trail }
         ensures less { OnOk result (Falls self.old.trail self.new.trail) }
         ensures none { OnErr result (NoneModels (formula_of self.old)) }
+        ensures causes { self.new.causes ≡ self.old.causes }
+        ensures watches { self.new.watches ≡ self.old.watches }
     {
         self.trail.flip()
     }
@@ -234,6 +246,7 @@ impl<'a> Search<'a> {
         ensures noted { SettledSays self.old self.new (reason_word reason) result }
         ensures trail { self.new.trail ≡ self.old.trail }
         ensures learned { self.new.learned ≡ self.old.learned }
+        ensures watches { self.new.watches ≡ self.old.watches }
     {
         let level = self.level_before();
         if let Some(last) = self.trail.len().checked_sub(1) {
@@ -252,6 +265,9 @@ impl<'a> Search<'a> {
         ensures literals { self.new.trail.literals ≡ self.old.trail.literals }
         ensures marks { self.new.trail.marks ≡ self.old.trail.marks }
         ensures len { self.new.trail.len ≡ self.old.trail.len }
+        ensures causes { self.new.causes ≡ self.old.causes }
+        ensures learned { self.new.learned ≡ self.old.learned }
+        ensures watches { self.new.watches ≡ self.old.watches }
     {
         self.trail.add(literal)
     }
@@ -262,17 +278,20 @@ impl<'a> Search<'a> {
         ensures kept { AddedIf clause.now self.old.learned self.new.learned result }
         ensures trail { self.new.trail ≡ self.old.trail }
         ensures causes { self.new.causes ≡ self.old.causes }
+        ensures watches { self.new.watches ≡ self.old.watches }
     {
         self.learned.add(clause)
     }
 
-    // Keeps the learned clauses that are wanted, in their order. Each is asked about once, with its number
-    // among them. Nothing is watched any more, since the numbers change.
+    // Keeps the learned clauses that are wanted, in their order. Where they stand in order, each is asked
+    // about once, with its number among them. Nothing is watched any more, since the numbers change.
     pub fn retain<F: FnMut(usize, &[u32]) -> bool>(&mut self, wants: F)
         requires { F.IsAlwaysCallable wants }
         ensures some { SomeOf self.old.learned.formula self.new.learned.formula }
         ensures fewer { length self.new.learned.formula ≤ length self.old.learned.formula }
         ensures memory { SameMemory self.old.learned self.new.learned }
+        ensures heads { (l : ℕ) → slice_index self.new.watches.heads.now l ≡ 0 }
+        ensures links { self.new.watches.links.now ≡ self.old.watches.links.now }
         ensures trail { self.new.trail ≡ self.old.trail }
         ensures causes { self.new.causes ≡ self.old.causes }
     {
@@ -282,7 +301,10 @@ impl<'a> Search<'a> {
 
     // Has a clause watched by two of its literals.
     pub fn attach(&mut self, number: u32, one: u32, other: u32)
-        ensures { self.new ≡ self.old }
+        ensures attached { Attached self.old.watches self.new.watches number one other }
+        ensures trail { self.new.trail ≡ self.old.trail }
+        ensures causes { self.new.causes ≡ self.old.causes }
+        ensures learned { self.new.learned ≡ self.old.learned }
     {
         self.watches.attach(number, one, other);
     }
@@ -305,6 +327,7 @@ impl<'a> Search<'a> {
     pub fn examine(&mut self, number: u32, other: u32, level: u32) -> Outcome
         requires low { number < 4294967295 }
         ensures onward { Onward self.old self.new }
+        ensures watches { self.new.watches ≡ self.old.watches }
         ensures jammed { result ≡ Outcome.Conflict → Jammed self.new.trail × (number < numbers_of self.new) }
     {
         match self.look(number as usize, other) {

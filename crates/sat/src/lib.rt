@@ -3,7 +3,7 @@
 // its two spans up to the second.
 #![tactic(auto)]
 
-ghost use Rattle.std.specs.Prelude.{◌≡◌, ℕ, ◌+◌, ◌*◌, ◌^◌, ◌<◌, ◌≤◌, length, slice_index};
+ghost use Rattle.std.specs.Prelude.{◌≡◌, ℕ, ◌+◌, ◌*◌, ◌^◌, ◌<◌, ◌≤◌, min, length, slice_index, EachIndex};
 ghost use Rattle.sat.specs.Promise.{floor_of, code, AnswerPost, CodePost};
 ghost use Rattle.sat.specs.Under.{UnderPost, UnderCodePost, FirstPost, FirstOf, FirstCodePost};
 
@@ -139,7 +139,17 @@ pub fn sat_ask_under(
     code_of(ask_under(spans, words, values, decided, assumptions, counts, work))
 }
 
-// The first model of clauses that stand in memory of their own; the units that come get other memory.
+// Has spans count from other words, which begin so many earlier.
+fn count_from(spans: &mut [u32], earlier: u32)
+    ensures { EachIndex spans.new (λ k. slice_index spans.new k ≡ min (slice_index spans.old k + earlier) 4294967295) }
+{
+    for span in spans.iter_mut() {
+        *span = span.saturating_add(earlier);
+    }
+}
+
+// The first model of clauses that stand in memory of their own; the units that come get the memory behind
+// it, and their spans count from where the clauses' words begin.
 fn first_of(
     spans: &[u32],
     words: &[u32],
@@ -181,13 +191,16 @@ fn first_of(
         &mut counters,
     );
     write_counters(&counters, counts);
+    if found.is_some() {
+        count_from(&mut spare_spans[..2 * more], words.len() as u32);
+    }
     Ok(found)
 }
 
 // The first model of clauses by the variables of a range, in their sequence, false first. The first so
 // many spans and words are the clauses, which stay as they are; there must be room behind them for a
-// clause of one literal more for each variable of the range, and what stands there afterwards is not
-// said. How many questions that took; nothing where there is no model.
+// clause of one literal more for each variable of the range, which is written there. How many questions
+// that took; nothing where there is no model.
 pub fn first(
     spans: &mut [u32],
     words: &mut [u32],

@@ -1,5 +1,5 @@
 // Questions on lent work: all memory is divided up from it, once for every question.
-ghost use Rattle.std.specs.Prelude.{◌≡◌, ◌+◌, ◌-◌, ◌*◌, ◌<◌, ◌≤◌, true, false, [], length};
+ghost use Rattle.std.specs.Prelude.{◌≡◌, ◌+◌, ◌-◌, ◌*◌, ◌<◌, ◌≤◌, true, false, ◌++◌, length};
 ghost use Rattle.clauses.specs.Formulas.{Models};
 ghost use Rattle.solver.specs.Values.{assignment};
 ghost use Rattle.solver.specs.Assumptions.{KnownAll, HoldsAll, NoneWith};
@@ -61,8 +61,8 @@ fn solver_on<'a>(
     requires few { problem.variables < 2147483647 }
     requires units { units.variables ≡ problem.variables }
     requires room { 15 * problem.variables + 4 * length problem.formula ≤ length work.old }
-    ensures problem { result.problem ≡ problem.entry }
-    ensures units { result.units ≡ units.entry }
+    ensures problem { result.trail.problem ≡ problem.entry }
+    ensures units { result.trail.units ≡ units.entry }
 {
     let variables = problem.variables();
     let base = problem.len();
@@ -124,9 +124,9 @@ pub fn ask_stored(
     found
 }
 
-// Finds the first model of clauses by the variables of a range, given by its ends, of which promises speak.
-// The values are it then; but for a model they are as they were. How many questions that took. The units
-// get a clause for each variable of the range.
+// Finds the first model of clauses, a problem's and units, by the variables of a range, given by its ends,
+// of which promises speak. The values are it then; but for a model they are as they were. How many
+// questions that took. The units get a clause for each variable of the range.
 pub fn first_stored(
     problem: Clauses,
     units: Store,
@@ -140,11 +140,10 @@ pub fn first_stored(
     requires size { length values.old ≡ problem.variables }
     requires few { problem.variables < 2147483647 }
     requires range { high ≤ problem.variables }
-    requires none { units.formula ≡ [] }
     requires known { units.variables ≡ problem.variables }
     requires units { Room units (high - low) }
     requires room { 15 * problem.variables + 4 * length problem.formula ≤ length work.old }
-    ensures says { FirstSays problem.entry.formula low high values.old values.new result }
+    ensures says { FirstSays (problem.entry.formula ++ units.entry.formula) low high values.old values.new result }
 {
     let mut solver = solver_on(problem, units, decided, work, *counters);
     let questions = match solver.begin() {

@@ -3,4 +3,5 @@ pub mod Values
 -- Assumptions.
 pub mod Assumptions
 -- What a solver shows.
+pub mod Views
 pub mod Keeping

@@ -3,6 +3,7 @@
 ghost use Rattle.std.specs.Prelude.{◌≡◌, ℕ, ◌/◌, ◌<◌, ◌≤◌, length, slice_index};
 ghost use Rattle.trail.specs.Views.{variables_of};
 ghost use Rattle.trail.specs.Trails.{AssumedT, Good};
+ghost use Rattle.conflicts.specs.Learning.{TrailAlone};
 ghost use Rattle.solver.specs.Assumptions.{KnownAll, WantedSays, LiteralSays, NextDecision, DecidedMore, StepSays};
 
 use crate::values::{next_variable, open_variable};
@@ -55,6 +56,10 @@ fn next_assumption(learner: &Learner, assumptions: &[u32], count: usize) -> Want
 // The literal to decide next.
 fn next_literal(learner: &mut Learner, guide: Guide) -> Option<u32>
     ensures search { learner.new.search ≡ learner.old.search }
+    ensures analysis { learner.new.analysis ≡ learner.old.analysis }
+    ensures uses { learner.new.uses ≡ learner.old.uses }
+    ensures decided { learner.new.decided ≡ learner.old.decided }
+    ensures counters { learner.new.counters ≡ learner.old.counters }
     ensures open { LiteralSays (variables_of learner.new.search.trail) learner.new.search.trail.values result }
 {
     learner.search.keeps();
@@ -78,7 +83,9 @@ fn put_decision(search: &mut Search, assumptions: &[u32], count: usize, literal:
     requires known { literal / 2 < variables_of search.old.trail }
     requires free { slice_index search.old.trail.values (literal / 2) ≡ 0 }
     requires order { NextDecision assumptions.now count search.old.trail.literals search.old.trail.len literal }
-    ensures { DecidedMore assumptions.now count search.old.trail search.new.trail }
+    ensures more { DecidedMore assumptions.now count search.old.trail search.new.trail }
+    ensures watches { search.new.watches ≡ search.old.watches }
+    ensures learned { search.new.learned ≡ search.old.learned }
 {
     search.trail().keeps();
     search.decide(literal);
@@ -90,7 +97,8 @@ fn put_on(learner: &mut Learner, assumptions: &[u32], count: usize, literal: u32
     requires known { literal / 2 < variables_of learner.old.search.trail }
     requires free { slice_index learner.old.search.trail.values (literal / 2) ≡ 0 }
     requires order { NextDecision assumptions.now count learner.old.search.trail.literals learner.old.search.trail.len literal }
-    ensures { StepSays assumptions.now count learner.old.search.trail learner.new.search.trail result }
+    ensures says { StepSays assumptions.now count learner.old.search.trail learner.new.search.trail result }
+    ensures alone { TrailAlone learner.old learner.new }
 {
     put_decision(&mut learner.search, assumptions, count, literal);
     learner.note_decision();
@@ -103,7 +111,8 @@ pub fn decide_on(learner: &mut Learner, assumptions: &[u32], count: usize, guide
     requires known { KnownAll (variables_of learner.old.search.trail) assumptions.now }
     requires count { count ≤ length assumptions.now }
     requires assumed { AssumedT assumptions.now count learner.old.search.trail }
-    ensures { StepSays assumptions.now count learner.old.search.trail learner.new.search.trail result }
+    ensures says { StepSays assumptions.now count learner.old.search.trail learner.new.search.trail result }
+    ensures alone { TrailAlone learner.old learner.new }
 {
     match next_assumption(learner, assumptions, count) {
         Wanted::Refuted => Step::Refuted,

@@ -39,9 +39,9 @@ pub struct Solver<'a> {
 }
 
 impl<'a> Model for Solver<'a> {
-    ghost use Rattle.trail.specs.Views.{TrailView};
+    ghost use Rattle.solver.specs.Views.{SolverView};
 
-    ghost Value = { TrailView };
+    ghost Value = { SolverView };
 
     ghost use Rattle.solver.specs.Keeping.{solver_view};
 
@@ -52,6 +52,9 @@ impl<'a> Model for Solver<'a> {
 fn start_again(learner: &mut Learner, pace: &mut Pace, full: bool) -> usize
     ensures clauses { SameClauses learner.old.search.trail learner.new.search.trail }
     ensures rooted { Rooted learner.new.search.trail.marks learner.new.search.trail.len }
+    ensures causes { learner.new.search.causes ≡ learner.old.search.causes }
+    ensures analysis { learner.new.analysis ≡ learner.old.analysis }
+    ensures decided { learner.new.decided ≡ learner.old.decided }
 {
     let root = learner.begin_anew();
     pace.begin_anew();
@@ -72,6 +75,7 @@ fn enter(search: &mut Search, number: u32) -> Result<(), NoModel>
     requires low { number < 4294967295 }
     ensures clauses { SameClauses search.old.trail search.new.trail }
     ensures none { OnErr result (NoneModels (formula_of search.old.trail)) }
+    ensures learned { search.new.learned ≡ search.old.learned }
 {
     let clause = search.trail().problem().clause(number as usize);
     let (Some(one), Some(other)) = (clause.first(), clause.last()) else {
@@ -91,6 +95,7 @@ fn enter(search: &mut Search, number: u32) -> Result<(), NoModel>
 fn enter_all(search: &mut Search) -> Result<(), NoModel>
     ensures clauses { SameClauses search.old.trail search.new.trail }
     ensures none { OnErr result (NoneModels (formula_of search.old.trail)) }
+    ensures learned { search.new.learned ≡ search.old.learned }
 {
     let base = search.trail().problem().len();
     // by number, by which a clause is watched
@@ -108,6 +113,8 @@ fn fix_unit(search: &mut Search, literal: u32) -> Result<(), NoModel>
     ensures added { Added (literal ∷ []) search.old.trail.units search.new.trail.units }
     ensures problem { search.new.trail.problem ≡ search.old.trail.problem }
     ensures none { OnErr result (NoneModels (formula_of search.new.trail)) }
+    ensures watches { search.new.watches ≡ search.old.watches }
+    ensures learned { search.new.learned ≡ search.old.learned }
 {
     search.trail().keeps();
     let _ = search.add(literal);
@@ -136,6 +143,7 @@ fn seek(
     ensures holds { result ≡ true → HoldsAll (assignment learner.new.search.trail.values) assumptions.now firm }
     ensures wished { result ≡ true → HoldsAll (assignment learner.new.search.trail.values) assumptions.now (length assumptions.now) ⊎ NoneWith (formula_of learner.new.search.trail) assumptions.now (length assumptions.now) }
     ensures none { result ≡ false → NoneWith (formula_of learner.new.search.trail) assumptions.now firm }
+    ensures decided { learner.new.decided ≡ learner.old.decided }
 {
     let root = learner.begin_anew();
     let mut start = pace.start.min(root);
@@ -196,8 +204,16 @@ impl Solver<'_> {
     // Looks at the clauses of the problem: what they imply without a decision is put on the trail, and
     // they are watched.
     pub fn begin(&mut self) -> Result<(), NoModel>
-        ensures clauses { SameClauses self.old self.new }
-        ensures none { OnErr result (NoneModels (formula_of self.old)) }
+        ensures clauses { SameClauses self.old.trail self.new.trail }
+        ensures none { OnErr result (NoneModels (formula_of self.old.trail)) }
+        ensures learned { self.new.learned ≡ self.old.learned }
+        ensures analysis { self.new.analysis ≡ self.old.analysis }
+        ensures uses { self.new.uses ≡ self.old.uses }
+        ensures decided { self.new.decided ≡ self.old.decided }
+        ensures order { self.new.order ≡ self.old.order }
+        ensures phases { self.new.phases ≡ self.old.phases }
+        ensures counters { self.new.counters ≡ self.old.counters }
+        ensures pace { self.new.pace ≡ self.old.pace }
     {
         let learner = &mut self.learner;
         enter_all(&mut learner.search)
@@ -205,11 +221,17 @@ impl Solver<'_> {
 
     // Fixes a literal for good: the clause of it alone joins the clauses, and it holds without a decision.
     pub fn fix(&mut self, literal: u32) -> Result<(), NoModel>
-        requires known { literal / 2 < variables_of self.old }
-        requires fits { Fits self.old.units 1 }
-        ensures added { Added (literal ∷ []) self.old.units self.new.units }
-        ensures problem { self.new.problem ≡ self.old.problem }
-        ensures none { OnErr result (NoneModels (formula_of self.new)) }
+        requires known { literal / 2 < variables_of self.old.trail }
+        requires fits { Fits self.old.trail.units 1 }
+        ensures added { Added (literal ∷ []) self.old.trail.units self.new.trail.units }
+        ensures problem { self.new.trail.problem ≡ self.old.trail.problem }
+        ensures none { OnErr result (NoneModels (formula_of self.new.trail)) }
+        ensures watches { self.new.watches ≡ self.old.watches }
+        ensures learned { self.new.learned ≡ self.old.learned }
+        ensures analysis { self.new.analysis ≡ self.old.analysis }
+        ensures uses { self.new.uses ≡ self.old.uses }
+        ensures decided { self.new.decided ≡ self.old.decided }
+        ensures counters { self.new.counters ≡ self.old.counters }
     {
         let learner = &mut self.learner;
         let root = learner.begin_anew();
@@ -222,21 +244,22 @@ impl Solver<'_> {
     // one then. The other assumptions are wishes: they are true in that model if they are all true in
     // some.
     pub fn solve_under(&mut self, assumptions: &[u32], firm: usize, guide: Guide) -> bool
-        requires known { KnownAll (variables_of self.old) assumptions.now }
+        requires known { KnownAll (variables_of self.old.trail) assumptions.now }
         requires firm { firm ≤ length assumptions.now }
-        ensures clauses { SameClauses self.old self.new }
-        ensures model { result ≡ true → Models (formula_of self.new) (assignment self.new.values) }
-        ensures holds { result ≡ true → HoldsAll (assignment self.new.values) assumptions.now firm }
-        ensures wished { result ≡ true → HoldsAll (assignment self.new.values) assumptions.now (length assumptions.now) ⊎ NoneWith (formula_of self.new) assumptions.now (length assumptions.now) }
-        ensures none { result ≡ false → NoneWith (formula_of self.new) assumptions.now firm }
+        ensures clauses { SameClauses self.old.trail self.new.trail }
+        ensures model { result ≡ true → Models (formula_of self.new.trail) (assignment self.new.trail.values) }
+        ensures holds { result ≡ true → HoldsAll (assignment self.new.trail.values) assumptions.now firm }
+        ensures wished { result ≡ true → HoldsAll (assignment self.new.trail.values) assumptions.now (length assumptions.now) ⊎ NoneWith (formula_of self.new.trail) assumptions.now (length assumptions.now) }
+        ensures none { result ≡ false → NoneWith (formula_of self.new.trail) assumptions.now firm }
+        ensures decided { self.new.decided ≡ self.old.decided }
     {
         seek(&mut self.learner, &mut self.pace, assumptions, firm, guide)
     }
 
     // Writes the values of the trail.
     pub fn hold(&self, values: &mut [u32])
-        requires { length values.old ≡ variables_of self.now }
-        ensures { values.new ≡ self.now.values }
+        requires { length values.old ≡ variables_of self.now.trail }
+        ensures { values.new ≡ self.now.trail.values }
     {
         let learner = &self.learner;
         let trail = learner.search.trail();
@@ -246,9 +269,10 @@ impl Solver<'_> {
 
     // Whether the clauses have a model; the values are one then. Nothing that is learned is forgotten.
     pub fn solve(&mut self) -> bool
-        ensures clauses { SameClauses self.old self.new }
-        ensures model { result ≡ true → Models (formula_of self.new) (assignment self.new.values) }
-        ensures none { result ≡ false → NoneModels (formula_of self.new) }
+        ensures clauses { SameClauses self.old.trail self.new.trail }
+        ensures model { result ≡ true → Models (formula_of self.new.trail) (assignment self.new.trail.values) }
+        ensures none { result ≡ false → NoneModels (formula_of self.new.trail) }
+        ensures decided { self.new.decided ≡ self.old.decided }
     {
         if self.begin().is_err() {
             return false;

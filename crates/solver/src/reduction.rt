@@ -34,7 +34,9 @@ fn pick(trail: &Trail, clause: &[u32]) -> Option<(u32, u32)>
 
 // Has a clause watched, given by its number.
 fn watch(search: &mut Search, number: u32)
-    ensures { search.new ≡ search.old }
+    ensures trail { search.new.trail ≡ search.old.trail }
+    ensures causes { search.new.causes ≡ search.old.causes }
+    ensures learned { search.new.learned ≡ search.old.learned }
 {
     let Some(clause) = search.clause(number as usize) else {
         return;
@@ -46,7 +48,9 @@ fn watch(search: &mut Search, number: u32)
 
 // Has all clauses watched, as far as their numbers fit.
 fn watch_all(search: &mut Search)
-    ensures { search.new ≡ search.old }
+    ensures trail { search.new.trail ≡ search.old.trail }
+    ensures causes { search.new.causes ≡ search.old.causes }
+    ensures learned { search.new.learned ≡ search.old.learned }
 {
     let base = search.trail().problem().len();
     let count = base.saturating_add(search.learned().len());
@@ -58,7 +62,11 @@ fn watch_all(search: &mut Search)
 
 // Forgets the worse half of what was learned.
 pub fn reduce(learner: &mut Learner)
-    ensures { learner.new.search.trail ≡ learner.old.search.trail }
+    ensures trail { learner.new.search.trail ≡ learner.old.search.trail }
+    ensures causes { learner.new.search.causes ≡ learner.old.search.causes }
+    ensures analysis { learner.new.analysis ≡ learner.old.analysis }
+    ensures clock { learner.new.uses.clock ≡ learner.old.uses.clock }
+    ensures decided { learner.new.decided ≡ learner.old.decided }
 {
     forget(&mut learner.search, &mut learner.uses);
     watch_all(&mut learner.search);

@@ -2,11 +2,11 @@
 // it is what falls: no step but one from a counted budget makes it larger as a number in base 3.
 #![tactic(auto)]
 
-ghost use Rattle.std.specs.Prelude.{◌≡◌, ℕ, ◌+◌, ◌-◌, ◌/◌, ◌%◌, ◌<◌, ◌≤◌, true, [], ◌∷◌, length, OnOk, OnErr, ◌==◌, slice_index, slice_set};
+ghost use Rattle.std.specs.Prelude.{◌≡◌, ℕ, ◌+◌, ◌-◌, ◌/◌, ◌%◌, ◌<◌, ◌≤◌, true, [], ◌∷◌, ◌++◌, length, OnOk, OnErr, ◌==◌, slice_index, slice_set};
 ghost use Rattle.clauses.specs.Formulas.{Assignment, value, negation, Models};
 ghost use Rattle.clauses.specs.Stores.{AddedIf};
 ghost use Rattle.trail.specs.Views.{formula_of, variables_of};
-ghost use Rattle.trail.specs.Trails.{Decided, Good, Jammed, Later, Falls, SameClauses, Forced, NoneModels, Rooted, RootAfter, Put, Popped};
+ghost use Rattle.trail.specs.Trails.{Decided, Held, Good, Jammed, Later, Falls, SameClauses, Forced, NoneModels, Rooted, RootAfter, Put, Popped};
 
 use clauses::{Clauses, Store, Unfit, negated};
 use std::marker::Model;
@@ -56,6 +56,22 @@ fn root_after(root: usize, len: usize, mark: u32) -> usize
     }
 }
 
+// The place of the first decision among so many marks, or their number.
+fn root_of(marks: &[u32], len: usize) -> usize
+    requires { len ≤ length marks.now }
+    ensures rooted { Rooted marks.now result }
+    ensures low { result ≤ len }
+    ensures decided { result < len → slice_index marks.now result ≡ 1 }
+{
+    // by place, which is what comes back
+    for place in 0..len {
+        if marks[place] == DECIDED {
+            return place;
+        }
+    }
+    len
+}
+
 // There is no model of the clauses.
 #[derive(Clone, Copy, PartialEq, Eq, Debug)]
 pub struct NoModel;
@@ -86,6 +102,37 @@ impl<'a> Trail<'a> {
             marks,
             len: 0,
             root: 0,
+        }
+    }
+
+    // So many literals that stand in the memory already, with their values and marks: one who kept a
+    // trail's memory takes it up again. Nothing is written.
+    pub fn over(
+        problem: Clauses<'a>,
+        units: Store<'a>,
+        values: &'a mut [u32],
+        literals: &'a mut [u32],
+        marks: &'a mut [u32],
+        len: usize,
+    ) -> Trail<'a>
+        requires units { units.variables ≡ problem.variables }
+        requires held { Held (problem.formula ++ units.formula) problem.variables values.old literals.old marks.old len }
+        ensures problem { result.problem ≡ problem.entry }
+        ensures units { result.units ≡ units.entry }
+        ensures values { result.values ≡ values.old }
+        ensures literals { result.literals ≡ literals.old }
+        ensures marks { result.marks ≡ marks.old }
+        ensures len { result.len ≡ len }
+    {
+        let root = root_of(marks, len);
+        Trail {
+            problem,
+            units,
+            values,
+            literals,
+            marks,
+            len,
+            root,
         }
     }
 }

@@ -12,8 +12,9 @@ loop-place-init c =
       grown = grown_by _ _ _ f.added;
       size = r.size;
       room = room_less _ _ _ (c.args.high - c.args.low) _ f.added r.units (omega (arith, r.range));
-      settled = settled_more _ _ _ _ _ c.args.solver.now c.fix.new.self (settled_none _ _ _ r.model) r.lowest (omega arith) c.literal_at.ensures f.added f.problem;
+      settled = settled_more _ _ _ _ _ c.args.solver.now.trail c.fix.new.self.trail (settled_none _ _ _ r.model) r.lowest (omega arith) c.literal_at.ensures f.added f.problem;
       questions = omega arith;
+      decided = f.decided;
     }
 
 pub loop-place-preserved : goal.loop-place-preserved
@@ -26,8 +27,9 @@ loop-place-preserved c =
       grown = grown_on _ _ _ i.grown (grown_on _ _ _ (grown_same _ _ e.clauses.units) (grown_by _ _ _ f.added));
       size = c.lower-questions.auto.values ∙ i.size;
       room = room_less _ _ _ (c.args.high - c.loop-place.place) _ f.added (room_same _ _ _ e.clauses i.room) (omega (arith, c.requires.range));
-      settled = settled_more _ _ _ _ _ c.lower-questions.new.solver c.fix-in-loop-place.new.self (settled_same _ _ _ _ _ _ _ e.clauses i.settled e.model) e.lowest (omega (arith, i.questions)) c.literal_at-in-loop-place.ensures f.added f.problem;
+      settled = settled_more _ _ _ _ _ c.lower-questions.new.solver.trail c.fix-in-loop-place.new.self.trail (settled_same _ _ _ _ _ _ _ e.clauses i.settled e.model) e.lowest (omega (arith, i.questions)) c.literal_at-in-loop-place.ensures f.added f.problem;
       questions = omega (arith, i.questions, e.few);
+      decided = f.decided ∙ e.decided ∙ i.decided;
     }
 
 pub returns-clause-first : goal.returns-clause-first

@@ -7,10 +7,11 @@ use Rattle.descent.proofs.descend.Given as goal
 
 abbrev pub invariant-loop-place : goal.invariant-loop-place
 invariant-loop-place l = record {
-  problem : l.solver.problem ≡ l.fn.solver.problem;
-  grown : Grown l.fn.solver.units l.solver.units;
-  size : length l.values ≡ variables_of l.fn.solver;
-  room : Room l.solver.units (l.high - l.place);
-  settled : Settled (formula_of l.fn.solver) (formula_of l.solver) (assignment l.values) l.low l.place;
+  problem : l.solver.trail.problem ≡ l.fn.solver.trail.problem;
+  grown : Grown l.fn.solver.trail.units l.solver.trail.units;
+  size : length l.values ≡ variables_of l.fn.solver.trail;
+  room : Room l.solver.trail.units (l.high - l.place);
+  settled : Settled (formula_of l.fn.solver.trail) (formula_of l.solver.trail) (assignment l.values) l.low l.place;
+  decided : l.solver.decided ≡ l.fn.solver.decided;
   questions : l.questions + (l.low + 1) ≤ l.place;
 }

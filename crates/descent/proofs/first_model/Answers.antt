@@ -8,7 +8,7 @@ use Rattle.descent.proofs.first_model.Goals as goal
 
 pub descend-requires-clause-lowest : goal.descend-requires-clause-lowest
 descend-requires-clause-lowest c =
-    let t = c.solve_under-2.new.self in
+    let t = c.solve_under-2.new.self.trail in
     subst (λ (xs : List ℕ). Lowest (formula_of t) (assignment xs) c.args.low) (sym c.hold-2.ensures)
     (⊎_elim
     (λ all. inl (sym (not-not (assignment t.values c.args.low)) ∙ ap not (sym (negative (assignment t.values) c.args.low) ∙ all 0 (omega arith))))

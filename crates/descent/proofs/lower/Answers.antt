@@ -13,7 +13,7 @@ returns-then-values-place-ne1-clause-lowest c = inl (ne_eqb _ 1 c.if-values-plac
 
 pub returns-then-solve_under-clause-lowest : goal.returns-then-solve_under-clause-lowest
 returns-then-solve_under-clause-lowest c =
-    let t = c.solve_under.new.self in
+    let t = c.solve_under.new.self.trail in
     subst (λ (xs : List ℕ). Lowest (formula_of t) (assignment xs) c.args.place) (sym c.hold.ensures)
     (inl (sym (not-not (assignment t.values c.args.place)) ∙ ap not (sym (negative (assignment t.values) c.args.place) ∙ c.if-solve_under.ensures.holds refl 0 (omega arith))))
 

@@ -1,4 +1,4 @@
-use Rattle.std.proofs.Common.{◌+◌, ◌≤◌, length}
+use Rattle.std.proofs.Common.{◌≡◌, ◌+◌, ◌≤◌, length}
 use Rattle.trail.specs.Views.{formula_of}
 use Rattle.trail.specs.Trails.{SameClauses, AssumedT, rank}
 use Rattle.solver.specs.Assumptions.{Wished}
@@ -11,6 +11,7 @@ invariant-loop-conflict l = record {
   firm : l.firm ≤ l.force;
   force : l.force ≤ length l.assumptions;
   wished : Wished (formula_of l.learner.search.trail) l.assumptions l.force;
+  decided : l.learner.decided ≡ l.fn.learner.decided;
 }
 
 abbrev pub decreases-loop-conflict : goal.decreases-loop-conflict

@@ -28,6 +28,7 @@ loop-place-preserved c =
       seen = i.seen;
       touched = i.touched;
       count = i.count;
+      buffer = length-set c.loop-place.self-inside.buffer.now c.loop-place.self-inside.size c.negated.result ∙ i.buffer;
       room = omega (arith, i.room, length-set c.loop-place.self-inside.buffer.now c.loop-place.self-inside.size c.negated.result);
       refusing = rw stored (refusing_more _ _ t.literals t.marks _ c.loop-place.place i.refusing c.negated.result (c.negated.ensures ∙ ap negation c.literal.ensures.is) small one);
       last = last_here t.marks c.loop-place.place one;

@@ -4,8 +4,8 @@ use Rattle.trail.proofs.Holding.{room_for_one}
 use Rattle.trail.proofs.Assuming.{assumed_more}
 use Rattle.solver.proofs.assumptions.put_decision.Goals as goal
 
-pub returns : goal.returns
-returns c =
+pub returns-clause-more : goal.returns-clause-more
+returns-clause-more c =
     let e = c.decide.ensures in
     let h = (subst Good c.trail.ensures c.keeps.ensures).held in
     record {

@@ -2,7 +2,7 @@ use Rattle.std.proofs.Common.{refl, arith, of_calls}
 use Rattle.clauses.specs.Stores.{from, to}
 use Rattle.clauses.proofs.Literals.{formula_long}
 use Rattle.clauses.proofs.Answering.{answered_all}
-use Rattle.clauses.proofs.Retaining.{retained_some, stored_seen, keeping_none, keeping_less, keeping_more, next_behind, next_ordered, next_within}
+use Rattle.clauses.proofs.Retaining.{stored_seen, keeping_none, keeping_less, keeping_more, keeping_over, next_ordered, next_within}
 use Rattle.clauses.proofs.store.Store.retain.Goals as goal
 use Rattle.clauses.proofs.store.Store.retain.Goals.{then-wants, else-wants}
 
@@ -10,36 +10,43 @@ pub loop-number-init : goal.loop-number-init
 loop-number-init g c = record { keeping = keeping_none _ _ _ _ _ _ _; callable = c.requires }
 
 pub prove-unreachable-requires : goal.prove-unreachable-requires
-unfolding from
-prove-unreachable-requires g c = let h = next_behind _ _ _ _ _ _ _ _ _ _ _ _ _ c.loop-number.wants (stored_seen _ _ c.self.view_is c.self.invariant) c.self.invariant.in_order c.loop-number.invariant.keeping (omega arith) in omega arith
+unfolding from to
+prove-unreachable-requires g c = let h = next_ordered _ _ _ _ _ _ _ _ _ _ _ _ _ c.loop-number.wants (stored_seen _ _ c.self.view_is c.self.invariant) c.loop-number.invariant.keeping (omega arith) in omega arith
 
 pub prove-unreachable-requires-in-loop-number : goal.prove-unreachable-requires-in-loop-number
 unfolding from to
-prove-unreachable-requires-in-loop-number g c = let h = next_ordered _ _ _ _ _ _ _ _ _ _ _ _ _ c.loop-number.wants (stored_seen _ _ c.self.view_is c.self.invariant) c.self.invariant.in_order c.loop-number.invariant.keeping (omega arith) in omega arith
+prove-unreachable-requires-in-loop-number g c = let h = next_within _ _ _ _ _ _ _ _ _ _ _ _ _ c.loop-number.wants (stored_seen _ _ c.self.view_is c.self.invariant) c.loop-number.invariant.keeping (omega arith) in omega arith
 
-pub prove-unreachable-requires-in-loop-number-2 : goal.prove-unreachable-requires-in-loop-number-2
-unfolding from to
-prove-unreachable-requires-in-loop-number-2 g c = let h = next_within _ _ _ _ _ _ _ _ _ _ _ _ _ c.loop-number.wants (stored_seen _ _ c.self.view_is c.self.invariant) c.self.invariant.in_order c.loop-number.invariant.keeping (omega arith) in omega arith
+pub loop-number-preserved-then-from-written : goal.loop-number-preserved-then-from-written
+unfolding from
+loop-number-preserved-then-from-written g c = record {
+  keeping = keeping_over _ _ _ _ _ _ _ _ _ _ _ _ _ c.loop-number.wants (stored_seen _ _ c.self.view_is c.self.invariant) c.loop-number.invariant.keeping (omega arith) c.if-from-written.true;
+  callable = c.loop-number.invariant.callable;
+}
 
 pub loop-number-preserved : goal.loop-number-preserved
 unfolding from to
 loop-number-preserved g c =
     let keeping = c.loop-number.invariant.keeping in
     let stored = stored_seen _ _ c.self.view_is c.self.invariant in
-    let order = c.self.invariant.in_order in
     record {
       keeping = elim c.if-wants.branch [
-        | then-wants w ↦ let copied = w.copy_within.ensures.by_index in rw (w.spans-is, w.words-is, w.kept-is, w.written-is) (keeping_more _ _ _ _ _ _ _ _ _ _ _ _ _ _ stored order keeping (omega arith) _ _ c.wants.ensures refl _ w.if-wants.true w.copy_within.ensures.len copied.0 copied.1 copied.2)
-        | else-wants w ↦ rw (w.spans-is, w.words-is, w.kept-is, w.written-is) (keeping_less _ _ _ _ _ _ _ _ _ _ _ _ _ _ stored order keeping (omega arith) _ _ c.wants.ensures refl w.if-wants.false)
+        | then-wants w ↦ let copied = w.copy_within.ensures.by_index in rw (w.spans-is, w.words-is, w.kept-is, w.written-is) (keeping_more _ _ _ _ _ _ _ _ _ _ _ _ _ _ stored keeping (omega arith) c.if-from-written.false _ _ c.wants.ensures refl _ w.if-wants.true w.copy_within.ensures.len copied.0 copied.1 copied.2)
+        | else-wants w ↦ rw (w.spans-is, w.words-is, w.kept-is, w.written-is) (keeping_less _ _ _ _ _ _ _ _ _ _ _ _ _ _ stored keeping (omega arith) c.if-from-written.false _ _ c.wants.ensures refl w.if-wants.false)
       ];
       callable = search of_calls;
     }
 
 pub returns-clause-wanted : goal.returns-clause-wanted
-returns-clause-wanted g c = rw (← c.self.view_is) (answered_all _ _ _ _ _ _ (omega (arith, formula_long c.self.inside.spans.now c.self.inside.words.now c.self.inside.count)) c.loop-number.invariant.keeping.answered)
+returns-clause-wanted g c =
+    let l = formula_long c.self.inside.spans.now c.self.inside.words.now c.self.inside.count in
+    rw (← c.self.view_is) (λ o. answered_all _ _ _ _ _ _ (omega arith) (c.loop-number.invariant.keeping.answered (λ j k jk h. o j k jk (omega arith))))
+
+pub returns-clause-in_order : goal.returns-clause-in_order
+returns-clause-in_order g c = λ j k jk h. c.loop-number.invariant.keeping.in_order j k jk (omega (arith, h, formula_long c.loop-number.spans c.loop-number.words c.loop-number.kept))
 
 pub returns-clause-some : goal.returns-clause-some
-returns-clause-some g c = retained_some _ _ _ _ (returns-clause-wanted g c)
+returns-clause-some g c = rw (← c.self.view_is) c.loop-number.invariant.keeping.some
 
 pub returns-clause-fewer : goal.returns-clause-fewer
 returns-clause-fewer g c = rw (← c.self.view_is) (omega (arith, formula_long c.self.inside.spans.now c.self.inside.words.now c.self.inside.count, formula_long c.loop-number.spans c.loop-number.words c.loop-number.kept, c.loop-number.invariant.keeping.low))

@@ -8,4 +8,8 @@ loop-claim-preserved c =
     let i = c.loop-claim.invariant in
     let h = c.in-Some.ensures.steps in
     let more = length_push c.loop-claim.yielded c.in-Some.claim in
-    (rw more (claimed_more _ _ _ c.args.self.now.sound.claims_room _ _ _ i.0 _ _ h.1.0 (h.1.1 ∙ i.1) _ c.in_ok-write_clause.ensures), h.0 ∙ i.1)
+    record {
+      claimed = rw more (claimed_more _ _ _ c.args.self.now.sound.claims_room _ _ _ i.claimed _ _ h.1.0 (h.1.1 ∙ i.three) _ c.in_ok-write_clause.ensures.writes);
+      three = h.0 ∙ i.three;
+      in_order = λ o. c.in_ok-write_clause.ensures.in_order (i.in_order o);
+    }

@@ -205,8 +205,25 @@ pub fn first(
         0 => Err("the call found no model and changed the values".into()),
         1 => Err("the call says that the clauses are none".into()),
         2 => Err(format!("the call says that {} words are too few", work.len())),
-        code => Ok(Some((model(formula, &values)?, code - 2))),
+        code => {
+            let model = model(formula, &values)?;
+            if !are_units(&model, low, &spans[2 * count..], &words[used..], used) {
+                return Err("what stands behind the clauses is not the model's units".into());
+            }
+            Ok(Some((model, code - 2)))
+        }
     }
+}
+
+/// Whether spans and words behind so many words are a clause of one literal for each variable
+/// from one on, as it is in a model.
+fn are_units(model: &[bool], low: usize, spans: &[u32], words: &[u32], used: usize) -> bool {
+    words.iter().enumerate().all(|(place, literal)| {
+        let begin = (used + place) as u32;
+        (literal / 2) as usize == low + place
+            && holds(model, *literal)
+            && spans[2 * place..2 * place + 2] == [begin, begin + 1]
+    })
 }
 
 /// Whether a literal is true in a model.

@@ -197,6 +197,7 @@ impl Learner<'_> {
         ensures analysis { self.new.analysis ≡ self.old.analysis }
         ensures uses { self.new.uses ≡ self.old.uses }
         ensures decided { self.new.decided ≡ self.old.decided }
+        ensures phases { length self.new.phases.now ≡ length self.old.phases.now }
     {
         let literal = negated(self.search.trail().literal(place));
         let clause = self.analysis.clause();
@@ -232,6 +233,7 @@ impl Learner<'_> {
         ensures marks { SameMarks self.old.analysis self.new.analysis }
         ensures uses { self.new.uses ≡ self.old.uses }
         ensures decided { self.new.decided ≡ self.old.decided }
+        ensures phases { length self.new.phases.now ≡ length self.old.phases.now }
     {
         let Some(last) = self.analysis.refuse(&self.search) else {
             return flip_last(&mut self.search);
@@ -246,6 +248,7 @@ impl Learner<'_> {
         ensures search { self.new.search ≡ self.old.search }
         ensures decided { self.new.decided ≡ self.old.decided }
         ensures clause { IfSome result (λ place. Taught self.new.search (clause_of self.new.analysis) × (place < self.new.search.trail.len)) }
+        ensures phases { self.new.phases ≡ self.old.phases }
     {
         self.analysis.clear();
         let place = self.analysis.analyze(&self.search, level, conflict)?;
@@ -263,6 +266,7 @@ impl Learner<'_> {
         ensures less { OnOk result (Falls self.old.search.trail self.new.search.trail) }
         ensures none { OnErr result (NoneModels (formula_of self.old.search)) }
         ensures decided { self.new.decided ≡ self.old.decided }
+        ensures phases { length self.new.phases.now ≡ length self.old.phases.now }
     {
         self.counters.conflicts = self.counters.conflicts.saturating_add(1);
         match self.derive(level, conflict) {
@@ -279,6 +283,7 @@ impl Learner<'_> {
         ensures causes { self.new.search.causes ≡ self.old.search.causes }
         ensures alone { TrailAlone self.old self.new }
         ensures counters { self.new.counters ≡ self.old.counters }
+        ensures phases { length self.new.phases.now ≡ length self.old.phases.now }
     {
         let root = self.search.trail().first_decision();
         release(

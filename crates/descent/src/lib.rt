@@ -39,6 +39,7 @@ fn lower(solver: &mut Solver, place: usize, values: &mut [u32]) -> usize
     ensures lowest { Lowest (formula_of solver.new.trail) (assignment values.new) place }
     ensures few { result ≤ 1 }
     ensures decided { solver.new.decided ≡ solver.old.decided }
+    ensures phases { length solver.new.phases.now ≡ length solver.old.phases.now }
 {
     if values[place] != 1 {
         return 0;
@@ -64,6 +65,7 @@ fn descend(solver: &mut Solver, low: usize, high: usize, values: &mut [u32]) -> 
     ensures problem { solver.new.trail.problem ≡ solver.old.trail.problem }
     ensures grown { Grown solver.old.trail.units solver.new.trail.units }
     ensures decided { solver.new.decided ≡ solver.old.decided }
+    ensures phases { length solver.new.phases.now ≡ length solver.old.phases.now }
 {
     let _ = solver.fix(literal_at(values, low));
     let mut questions = 0;
@@ -90,6 +92,7 @@ pub fn first_model(
     ensures problem { solver.new.trail.problem ≡ solver.old.trail.problem }
     ensures grown { Grown solver.old.trail.units solver.new.trail.units }
     ensures decided { solver.new.decided ≡ solver.old.decided }
+    ensures phases { length solver.new.phases.now ≡ length solver.old.phases.now }
 {
     if low >= high {
         if !solver.solve_under(&[], 0, Guide::Activity) {

@@ -61,6 +61,7 @@ fn next_literal(learner: &mut Learner, guide: Guide) -> Option<u32>
     ensures decided { learner.new.decided ≡ learner.old.decided }
     ensures counters { learner.new.counters ≡ learner.old.counters }
     ensures open { LiteralSays (variables_of learner.new.search.trail) learner.new.search.trail.values result }
+    ensures phases { length learner.new.phases.now ≡ length learner.old.phases.now }
 {
     learner.search.keeps();
     let trail = learner.search.trail();
@@ -99,6 +100,7 @@ fn put_on(learner: &mut Learner, assumptions: &[u32], count: usize, literal: u32
     requires order { NextDecision assumptions.now count learner.old.search.trail.literals learner.old.search.trail.len literal }
     ensures says { StepSays assumptions.now count learner.old.search.trail learner.new.search.trail result }
     ensures alone { TrailAlone learner.old learner.new }
+    ensures phases { length learner.new.phases.now ≡ length learner.old.phases.now }
 {
     put_decision(&mut learner.search, assumptions, count, literal);
     learner.note_decision();
@@ -113,6 +115,7 @@ pub fn decide_on(learner: &mut Learner, assumptions: &[u32], count: usize, guide
     requires assumed { AssumedT assumptions.now count learner.old.search.trail }
     ensures says { StepSays assumptions.now count learner.old.search.trail learner.new.search.trail result }
     ensures alone { TrailAlone learner.old learner.new }
+    ensures phases { length learner.new.phases.now ≡ length learner.old.phases.now }
 {
     match next_assumption(learner, assumptions, count) {
         Wanted::Refuted => Step::Refuted,

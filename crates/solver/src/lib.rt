@@ -55,6 +55,7 @@ fn start_again(learner: &mut Learner, pace: &mut Pace, full: bool) -> usize
     ensures causes { learner.new.search.causes ≡ learner.old.search.causes }
     ensures analysis { learner.new.analysis ≡ learner.old.analysis }
     ensures decided { learner.new.decided ≡ learner.old.decided }
+    ensures phases { length learner.new.phases.now ≡ length learner.old.phases.now }
 {
     let root = learner.begin_anew();
     pace.begin_anew();
@@ -144,6 +145,7 @@ fn seek(
     ensures wished { result ≡ true → HoldsAll (assignment learner.new.search.trail.values) assumptions.now (length assumptions.now) ⊎ NoneWith (formula_of learner.new.search.trail) assumptions.now (length assumptions.now) }
     ensures none { result ≡ false → NoneWith (formula_of learner.new.search.trail) assumptions.now firm }
     ensures decided { learner.new.decided ≡ learner.old.decided }
+    ensures phases { length learner.new.phases.now ≡ length learner.old.phases.now }
 {
     let root = learner.begin_anew();
     let mut start = pace.start.min(root);
@@ -232,6 +234,7 @@ impl Solver<'_> {
         ensures uses { self.new.uses ≡ self.old.uses }
         ensures decided { self.new.decided ≡ self.old.decided }
         ensures counters { self.new.counters ≡ self.old.counters }
+        ensures phases { length self.new.phases.now ≡ length self.old.phases.now }
     {
         let learner = &mut self.learner;
         let root = learner.begin_anew();
@@ -252,6 +255,7 @@ impl Solver<'_> {
         ensures wished { result ≡ true → HoldsAll (assignment self.new.trail.values) assumptions.now (length assumptions.now) ⊎ NoneWith (formula_of self.new.trail) assumptions.now (length assumptions.now) }
         ensures none { result ≡ false → NoneWith (formula_of self.new.trail) assumptions.now firm }
         ensures decided { self.new.decided ≡ self.old.decided }
+        ensures phases { length self.new.phases.now ≡ length self.old.phases.now }
     {
         seek(&mut self.learner, &mut self.pace, assumptions, firm, guide)
     }
@@ -273,6 +277,7 @@ impl Solver<'_> {
         ensures model { result ≡ true → Models (formula_of self.new.trail) (assignment self.new.trail.values) }
         ensures none { result ≡ false → NoneModels (formula_of self.new.trail) }
         ensures decided { self.new.decided ≡ self.old.decided }
+        ensures phases { length self.new.phases.now ≡ length self.old.phases.now }
     {
         if self.begin().is_err() {
             return false;

@@ -1,6 +1,6 @@
 // Forgetting, and what comes with it: the clauses that are kept have new numbers, so all watches are
 // made anew. A clause that is true without any decision is no longer watched.
-ghost use Rattle.std.specs.Prelude.{◌≡◌};
+ghost use Rattle.std.specs.Prelude.{◌≡◌, length};
 ghost use Rattle.clauses.specs.Stores.{Known};
 ghost use Rattle.trail.specs.Views.{variables_of};
 
@@ -67,6 +67,7 @@ pub fn reduce(learner: &mut Learner)
     ensures analysis { learner.new.analysis ≡ learner.old.analysis }
     ensures clock { learner.new.uses.clock ≡ learner.old.uses.clock }
     ensures decided { learner.new.decided ≡ learner.old.decided }
+    ensures phases { length learner.new.phases.now ≡ length learner.old.phases.now }
 {
     forget(&mut learner.search, &mut learner.uses);
     watch_all(&mut learner.search);

@@ -15,6 +15,7 @@ loop-place-init c =
       settled = settled_more _ _ _ _ _ c.args.solver.now.trail c.fix.new.self.trail (settled_none _ _ _ r.model) r.lowest (omega arith) c.literal_at.ensures f.added f.problem;
       questions = omega arith;
       decided = f.decided;
+      phases = f.phases;
     }
 
 pub loop-place-preserved : goal.loop-place-preserved
@@ -30,6 +31,7 @@ loop-place-preserved c =
       settled = settled_more _ _ _ _ _ c.lower-questions.new.solver.trail c.fix-in-loop-place.new.self.trail (settled_same _ _ _ _ _ _ _ e.clauses i.settled e.model) e.lowest (omega (arith, i.questions)) c.literal_at-in-loop-place.ensures f.added f.problem;
       questions = omega (arith, i.questions, e.few);
       decided = f.decided ∙ e.decided ∙ i.decided;
+      phases = f.phases ∙ e.phases ∙ i.phases;
     }
 
 pub returns-clause-first : goal.returns-clause-first

@@ -13,5 +13,6 @@ invariant-loop-place l = record {
   room : Room l.solver.trail.units (l.high - l.place);
   settled : Settled (formula_of l.fn.solver.trail) (formula_of l.solver.trail) (assignment l.values) l.low l.place;
   decided : l.solver.decided ≡ l.fn.solver.decided;
+  phases : length l.solver.phases.now ≡ length l.fn.solver.phases.now;
   questions : l.questions + (l.low + 1) ≤ l.place;
 }

@@ -1,4 +1,4 @@
-use Rattle.std.proofs.Common.{ℕ, ◌+◌, ◌∙◌, sym, inl, inr, ⊎_elim, subst, arith}
+use Rattle.std.proofs.Common.{ℕ, ◌+◌, ◌∙◌, length, ap, sym, inl, inr, ⊎_elim, subst, arith}
 use Rattle.trail.specs.Views.{TrailView, formula_of}
 use Rattle.trail.specs.Trails.{SameClauses, AssumedT}
 use Rattle.trail.proofs.Assuming.{assumed_none, assumed_later}
@@ -20,6 +20,7 @@ loop-conflict-preserved-in-Some c =
       force = i.force;
       wished = wished_on _ _ _ _ on i.wished;
       decided = c.learn.ensures.decided ∙ c.propagate.ensures.decided ∙ i.decided;
+      phases = c.learn.ensures.phases ∙ ap (λ p. length p.now) c.propagate.ensures.phases ∙ i.phases;
     }
 
 pub loop-conflict-smaller-then-restarts-gt0 : goal.loop-conflict-smaller-then-restarts-gt0
@@ -38,6 +39,7 @@ loop-conflict-preserved-then-restarts-gt0 c =
       force = i.force;
       wished = wished_on _ _ _ _ on i.wished;
       decided = r.decided ∙ c.propagate.ensures.decided ∙ i.decided;
+      phases = r.phases ∙ ap (λ p. length p.now) c.propagate.ensures.phases ∙ i.phases;
     }
 
 pub decide_on-requires-clause-assumed : goal.decide_on-requires-clause-assumed
@@ -66,6 +68,7 @@ loop-conflict-preserved-in-Refuted c =
       force = c.requires.firm;
       wished = wished_on _ _ _ _ b.same.clauses w;
       decided = b.alone.decided ∙ c.decide_on.ensures.alone.decided ∙ c.propagate.ensures.decided ∙ i.decided;
+      phases = b.phases ∙ c.decide_on.ensures.phases ∙ ap (λ p. length p.now) c.propagate.ensures.phases ∙ i.phases;
     }
 
 pub loop-conflict-preserved-in-Decided : goal.loop-conflict-preserved-in-Decided
@@ -73,7 +76,7 @@ loop-conflict-preserved-in-Decided c =
     let i = c.loop-conflict.invariant in
     let e = c.in-Decided.ensures.says in
     let on = same_on _ _ _ c.propagate.ensures.onward.same.clauses e.clauses in
-    record { clauses = same_on _ _ _ i.clauses on; assumed = e.assumed; firm = i.firm; force = i.force; wished = wished_on _ _ _ _ on i.wished; decided = c.decide_on.ensures.alone.decided ∙ c.propagate.ensures.decided ∙ i.decided }
+    record { clauses = same_on _ _ _ i.clauses on; assumed = e.assumed; firm = i.firm; force = i.force; wished = wished_on _ _ _ _ on i.wished; decided = c.decide_on.ensures.alone.decided ∙ c.propagate.ensures.decided ∙ i.decided; phases = c.decide_on.ensures.phases ∙ ap (λ p. length p.now) c.propagate.ensures.phases ∙ i.phases }
 
 pub returns-then-found-clause-holds : goal.returns-then-found-clause-holds
 returns-then-found-clause-holds c _ i h = true_under _ _ (c.in-Complete.ensures.says.holds i (omega (arith, c.loop-conflict.invariant.firm)))
@@ -101,4 +104,5 @@ loop-conflict-preserved c =
       force = i.force;
       wished = wished_on _ _ _ _ on i.wished;
       decided = c.turn_round.ensures.decided ∙ c.decide_on.ensures.alone.decided ∙ c.propagate.ensures.decided ∙ i.decided;
+      phases = c.turn_round.ensures.phases ∙ c.decide_on.ensures.phases ∙ ap (λ p. length p.now) c.propagate.ensures.phases ∙ i.phases;
     }

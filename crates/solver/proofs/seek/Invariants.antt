@@ -12,6 +12,7 @@ invariant-loop-conflict l = record {
   force : l.force ≤ length l.assumptions;
   wished : Wished (formula_of l.learner.search.trail) l.assumptions l.force;
   decided : l.learner.decided ≡ l.fn.learner.decided;
+  phases : length l.learner.phases.now ≡ length l.fn.learner.phases.now;
 }
 
 abbrev pub decreases-loop-conflict : goal.decreases-loop-conflict

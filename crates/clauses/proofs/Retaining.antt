@@ -13,21 +13,24 @@ use Rattle.clauses.specs.Formulas.{Satisfies}
 use Rattle.clauses.specs.Stores.{from, to, clause, clause_at, formula, Stored, InOrder, Known, Sound}
 use Rattle.clauses.specs.declared.store.Store.TheInside.{Inside}
 use Rattle.clauses.specs.Views.{StoreView}
-use Rattle.clauses.specs.Keeping.{store_view, IsStored}
+use Rattle.clauses.specs.Keeping.{store_view}
 use Rattle.clauses.specs.Retaining.{Asked, SomeOf}
 use Rattle.clauses.proofs.Copies.{Copied, added_formula, added_stored, order_more, spanned_long}
 use Rattle.clauses.proofs.Literals.{formula_long, formula_at, clause_known}
 use Rattle.clauses.proofs.Answering.{Answered, answered_no, answered_yes}
 
 -- what a store keeps, in the words of what it shows
-pub stored_seen : (s : Inside) (t : StoreView) → store_view s ≡ t → IsStored s → Stored t.variables s.spans.now s.words.now s.count t.used
+pub stored_seen : (s : Inside) (t : StoreView) → store_view s ≡ t → Stored s.variables s.spans.now s.words.now s.count s.used → Stored t.variables s.spans.now s.words.now s.count t.used
 stored_seen s t e i = subst (λ (x : StoreView). Stored x.variables s.spans.now s.words.now s.count x.used) e i
 
--- what is kept are clauses that were there
+-- what is kept are clauses that were there: by the answers so far, and by all
+pub answered_some : {P : Type 0} (R : P → List ℕ → Bool → P → Type 0) (p : P) (g : List (List ℕ)) (next : ℕ) (h : List (List ℕ)) (q : P) → Answered R p g next h q → SomeOf g h
+answered_some R p g next h q a k l =
+    let picked = get_or_picked a.answers g k [] (subst (λ (x : List (List ℕ)). k < length x) a.kept l) in
+    (picked.1.0, picked.1.1, ap (λ (x : List (List ℕ)). get_or x k []) a.kept ∙ picked.1.2)
+
 pub retained_some : {P : Type 0} (R : P → List ℕ → Bool → P → Type 0) (p : P) (g h : List (List ℕ)) → IsFiltered R p g h → SomeOf g h
-retained_some R p g h r k l =
-    let picked = get_or_picked r.0 g k [] (subst (λ (x : List (List ℕ)). k < length x) r.4 l) in
-    (picked.1.0, picked.1.1, ap (λ (x : List (List ℕ)). get_or x k []) r.4 ∙ picked.1.2)
+retained_some R p g h r = answered_some R p g (length r.0) h r.1 (record { answers = r.0; long = refl; in_turn = r.3; kept = r.4 })
 
 -- one more of those that were there is kept
 some_more : (g h : List (List ℕ)) (c : List ℕ) (j : ℕ) → SomeOf g h → j < length g → c ≡ clause_at g j → SomeOf g (h ++ (c ∷ []))

@@ -4,3 +4,4 @@ pub mod Views
 pub mod Stores
 pub mod Keeping
 pub mod Retaining
+pub mod Ordering

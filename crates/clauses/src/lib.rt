@@ -8,8 +8,11 @@ ghost use Rattle.clauses.specs.Formulas.{negation};
 mod list;
 // Clauses that are added one by one.
 mod store;
+// Clauses of which exactly those that are wanted are kept.
+mod ordered;
 
 pub use list::{Clauses, all_known};
+pub use ordered::OrderedStore;
 pub use store::{Store, Unfit};
 
 // The opposite of a literal.

@@ -13,7 +13,9 @@ pub struct Store<'a> {
     spans: &'a mut [u32],
     words: &'a mut [u32],
     count: usize,
-    used: usize,
+    used: u32,
+    // whether the clauses stood in the memory before: only then may they come in any order
+    taken: bool,
 }
 
 impl<'a> Model for Store<'a> {
@@ -50,6 +52,7 @@ impl<'a> Store<'a> {
             words,
             count: 0,
             used: 0,
+            taken: false,
         }
     }
 
@@ -74,7 +77,8 @@ impl<'a> Store<'a> {
             spans,
             words,
             count,
-            used,
+            used: used as u32,
+            taken: true,
         }
     }
 }
@@ -88,7 +92,7 @@ impl Store<'_> {
         Clauses::new(
             self.variables,
             self.spans,
-            &self.words[..self.used],
+            &self.words[..self.used as usize],
             self.count,
         )
     }
@@ -116,7 +120,7 @@ impl Store<'_> {
         if !all_known(clause, self.variables) {
             return Err(Unfit::Literal);
         }
-        let begin = self.used;
+        let begin = self.used as usize;
         let room = (self.words.len() - begin).min(0xffff_ffff - begin);
         if clause.len() > room {
             return Err(Unfit::Room);
@@ -129,7 +133,7 @@ impl Store<'_> {
         self.spans[2 * self.count] = begin as u32;
         self.spans[2 * self.count + 1] = end as u32;
         self.count += 1;
-        self.used = end;
+        self.used = end as u32;
         Ok(())
     }
 
@@ -148,6 +152,7 @@ impl Store<'_> {
     {
         let spans = &mut *self.spans;
         let words = &mut *self.words;
+        let taken = self.taken;
         let mut kept = 0;
         let mut written = 0;
         // by number, since the spans change as they are gone through
@@ -155,9 +160,10 @@ impl Store<'_> {
             let from = spans[2 * number] as usize;
             let to = spans[2 * number + 1] as usize;
             // its literals may be overwritten
-            if from < written {
+            if taken && from < written {
                 continue;
             }
+            prove!(written <= from);
             prove!(from <= to);
             prove!(to <= words.len());
             if wants(number, &words[from..to]) {
@@ -170,6 +176,32 @@ impl Store<'_> {
             }
         }
         self.count = kept;
-        self.used = written;
+        self.used = written as u32;
+    }
+}
+
+#[cfg(test)]
+mod tests {
+    use super::Store;
+    use std::test::*;
+
+    // What began empty is not taken for what was taken over; no contract says so.
+    #[test]
+    fn begins_in_order(rt: HostRuntime) {
+        let mut spans = [9; 2];
+        let mut words = [9; 2];
+        let store = Store::new(5, &mut spans, &mut words);
+        assert!(rt; !store.taken);
+    }
+
+    // The second clause stands before the first, which is moved over it; so it is not kept, though wanted.
+    #[test]
+    fn overwritten_is_not_kept(rt: HostRuntime) {
+        let mut spans = [2, 4, 0, 2];
+        let mut words = [4, 6, 0, 2];
+        let mut store = Store::over(4, &mut spans, &mut words, 2, 4);
+        store.retain(|_, _| true);
+        assert_eq!(rt; store.len(), 1);
+        assert_eq!(rt; store.clauses().clause(0), &[0, 2][..]);
     }
 }

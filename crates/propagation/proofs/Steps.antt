@@ -15,7 +15,7 @@ use Rattle.trail.specs.Trails.{Good}
 use Rattle.trail.specs.Views.{TrailView, variables_of as variables_on}
 use Rattle.propagation.specs.declared.search.Look.{Look}
 use Rattle.propagation.specs.declared.search.Look.TheVariants.{Replace, Implied, Conflict}
-use Rattle.propagation.specs.Views.{SearchView, variables_of, formula_of}
+use Rattle.propagation.specs.Views.{SearchView, variables_of, formula_of, numbers_of}
 use Rattle.propagation.specs.Looking.{LookSays, LookFinds}
 use Rattle.propagation.specs.Searching.{Ready, Same, Onward, Numbered}
 use Rattle.propagation.proofs.Seeing.{stuck, implied_by, implies_other, all_differ}
@@ -33,12 +33,12 @@ pub onward_on : (s t u : SearchView) → Onward s t → Onward t u → Onward s 
 onward_on s t u first second = record { same = stays_on s t u first.same second.same; falls = λ budget. le_trans (second.falls budget) (first.falls budget); later = later_on _ _ _ _ _ _ _ _ _ first.later second.later }
 
 -- what a look at a clause that follows finds
-pub found : (s : SearchView) (number other : ℕ) (c : List ℕ) (look : Look) → Good s.trail → Numbered s number c → other / 2 < variables_of s → LookSays (variables_of s) s.trail.values c other look → LookFinds s number other look
-found s number other c (Replace l) good numbered known says = says
-found s number other c Implied good numbered known says =
-    (known, says.0, implied_by _ _ _ _ _ _ good.held other (implies_other (formula_of s) s.trail.values c other numbered.follows says.1))
-found s number other c Conflict good numbered known says =
-    (stuck _ _ _ _ _ _ good.held (all_differ (formula_of s) s.trail.values c other numbered.follows says.1 says.0), numbered.inside)
+pub found : (s : SearchView) (number other : ℕ) (c : List ℕ) (look : Look) → Good s.trail → number < numbers_of s → Follows (formula_of s) c → other / 2 < variables_of s → LookSays (variables_of s) s.trail.values c other look → LookFinds s number other look
+found s number other c (Replace l) good inside follows known says = says
+found s number other c Implied good inside follows known says =
+    (known, says.0, implied_by _ _ _ _ _ _ good.held other (implies_other (formula_of s) s.trail.values c other follows says.1))
+found s number other c Conflict good inside follows known says =
+    (stuck _ _ _ _ _ _ good.held (all_differ (formula_of s) s.trail.values c other follows says.1 says.0), inside)
 
 -- a clause of the problem, by its number, and one that was learned
 pub numbered_problem : (s : SearchView) (number : ℕ) (p : ClausesView) (c : List ℕ) → p ≡ s.trail.problem → number < length p.formula → c ≡ clause_at p.formula number → Known p.variables c → Numbered s number c
